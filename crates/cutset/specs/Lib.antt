@@ -1,0 +1,4 @@
+pub mod Unused
+pub mod Stages
+pub mod Method
+pub mod Tables

@@ -1,0 +1,4 @@
+pub mod Marks
+pub mod Degrees
+pub mod Pruning
+pub mod SplitNodes

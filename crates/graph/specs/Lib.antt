@@ -1,0 +1,4 @@
+pub mod Marks
+pub mod Graphs
+pub mod Pruning
+pub mod Split

@@ -1,0 +1,10 @@
+pub mod First
+pub mod Faults
+pub mod Layout
+pub mod Checks
+pub mod Card
+pub mod Passed
+pub mod FirstLaws
+pub mod LayoutLaws
+pub mod PassedLaws
+pub mod CardLawful
