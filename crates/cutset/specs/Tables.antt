@@ -1,15 +1,21 @@
 -- How the tables of the code are read.
 use Prim.Native.Nat.{ℕ}
 use mathlib.Core.List.{List}
-use mathlib.Core.Bool.{cond}
+use mathlib.Core.Bool.{true, false, cond}
+use mathlib.Core.Path.{_≡_}
 use lib.Dec.{leb}
 use lib.ListN.{getD, take}
+use Rattle.std.specs.Results.{Cases}
 use Rattle.std.specs.declared.option.Option.{Option}
 use Rattle.std.specs.declared.option.Option.the-variants.{Some, None}
+use Rattle.std.specs.declared.result.Result.{Result}
+use Rattle.std.specs.declared.result.Result.the-variants.{Ok, Err}
 use Rattle.plan.specs.Sums.{Set}
 use Rattle.graph.specs.Graphs.{Adj}
-use Rattle.cutset.specs.Stages.{share}
+use Rattle.cutset.specs.Stages.{share, short, taken-off}
 use Rattle.cutset.specs.Method.{Choice}
+use Rattle.cutset.specs.declared.fault.ChoiceFault.{ChoiceFault}
+use Rattle.cutset.specs.declared.fault.ChoiceFault.the-variants.{HoldsTooLittle}
 use Rattle.cutset.specs.declared.pick.Pick.{Pick}
 use Rattle.cutset.specs.declared.picks.Picks.{Picks}
 use Rattle.cutset.specs.declared.choice.Cutset.{Cutset}
@@ -35,3 +41,14 @@ picked ps = take (ps .count) (ps .list)
 -- what a cutset tells
 abbrev pub told : Cutset → Choice
 told c = record { members = take (c .count) (c .members); weight = c .weight; settings = c .settings }
+
+-- r is the outcome o, as `view` reads it
+abbrev pub Reads : {X Y : Type 0} → (X → Y) → Result X ChoiceFault → Result Y ChoiceFault → Type 0
+Reads view r o = Cases r (λ x. o ≡ Ok (view x)) (λ e. o ≡ Err e)
+
+-- h′ is h with the shares off, or some node held too little
+abbrev pub TakesOff : {X : Type 0} → ℕ → Adj → Set → Set → Set → ℕ → (ℕ → ℕ) → (ℕ → ℕ) → Result X ChoiceFault → Type 0
+TakesOff n adj free C D s h h′ r =
+    Cases r
+    (λ _. (short n adj free C D h s ≡ false) × (h′ ≡ taken-off n adj free C D h s))
+    (λ e. (e ≡ HoldsTooLittle) × (short n adj free C D h s ≡ true))

@@ -1,17 +1,13 @@
 //! The first stage: picking.
 ghost use mathlib.Core.Path.{_≡_};
-ghost use mathlib.Core.Bool.{true, false};
-ghost use Prim.Native.Nat.{ℕ, _+_, _*_, _≤_, _<_};
-ghost use Rattle.std.specs.Results.{Cases};
-ghost use Rattle.std.specs.declared.result.Result.the-variants.{Ok, Err};
+ghost use Prim.Native.Nat.{_*_, _≤_};
 ghost use Rattle.plan.specs.Limits.{most-weight};
 ghost use Rattle.plan.specs.Sums.{Within};
 ghost use Rattle.graph.specs.Graphs.{TwoEdged};
-ghost use Rattle.graph.specs.Marks.{marked, linked};
-ghost use Rattle.cutset.specs.Stages.{next-pick, short, taken-off};
+ghost use Rattle.graph.specs.Read.{set-of, node-count, edges};
+ghost use Rattle.cutset.specs.Stages.{next-pick};
 ghost use Rattle.cutset.specs.Method.{share-unit, unbarred, first-holding, picks};
-ghost use Rattle.cutset.specs.Tables.{holds, smaller-of, with-share, picked};
-ghost use Rattle.cutset.specs.declared.fault.ChoiceFault.the-variants.{HoldsTooLittle};
+ghost use Rattle.cutset.specs.Tables.{holds, smaller-of, with-share, picked, Reads, TakesOff};
 use crate::fault::ChoiceFault;
 use crate::holdings::Holdings;
 use crate::pick::Pick;
@@ -26,7 +22,7 @@ const SHARE_UNIT: u32 = 256;
 
 /// The picks for a source's plan where the measures of `taken` are taken, in the order of picking, or why there are none.
 pub fn pick_measures<S: Source>(source: &S, taken: &NumberSet) -> Result<Picks, ChoiceFault>
-    ensures { λ r. ⌜ Cases r (λ ps. picks (S·Source .plan (now (source .entry))) (marked (now (taken .entry) .marks)) ≡ Ok (picked ps)) (λ e. picks (S·Source .plan (now (source .entry))) (marked (now (taken .entry) .marks)) ≡ Err e) ⌝ }
+    ensures { λ r. ⌜ Reads picked r (picks (S·Source .plan (now (source .entry))) (set-of (now (taken .entry)))) ⌝ }
 {
     let graph = SplitGraph::of(source);
     let free = unbarred_measures(source);
@@ -50,7 +46,7 @@ pub fn pick_measures<S: Source>(source: &S, taken: &NumberSet) -> Result<Picks, 
 
 /// The measures that may be picked.
 fn unbarred_measures<S: Source>(source: &S) -> NumberSet
-    ensures { λ r. ⌜ marked (r .marks) ≡ unbarred (S·Source .plan (now (source .entry))) ⌝ }
+    ensures { λ r. ⌜ set-of r ≡ unbarred (S·Source .plan (now (source .entry))) ⌝ }
 {
     let mut free = NumberSet::empty();
     for m in 0..source.count() {
@@ -81,8 +77,8 @@ fn smallest_share(
     nodes: &NumberSet,
     holdings: &Holdings,
 ) -> Option<(u8, u32)>
-    requires { ⌜ TwoEdged (now graph .count + now graph .count) (linked (now graph .rows)) (marked (now nodes .marks)) ⌝ }
-    ensures { λ r. ⌜ r ≡ with-share (now (graph .entry) .count + now (graph .entry) .count) (linked (now (graph .entry) .rows)) (marked (now (nodes .entry) .marks)) (holds (now (holdings .entry) .amounts)) (next-pick (now (graph .entry) .count + now (graph .entry) .count) (linked (now (graph .entry) .rows)) (marked (now (free .entry) .marks)) (marked (now (nodes .entry) .marks)) (holds (now (holdings .entry) .amounts))) ⌝ }
+    requires { ⌜ TwoEdged (node-count (now graph)) (edges (now graph)) (set-of (now nodes)) ⌝ }
+    ensures { λ r. ⌜ r ≡ with-share (node-count (now (graph .entry))) (edges (now (graph .entry))) (set-of (now (nodes .entry))) (holds (now (holdings .entry) .amounts)) (next-pick (node-count (now (graph .entry))) (edges (now (graph .entry))) (set-of (now (free .entry))) (set-of (now (nodes .entry))) (holds (now (holdings .entry) .amounts))) ⌝ }
 {
     let mut found = None;
     for node in 0..graph.nodes() {
@@ -114,9 +110,9 @@ fn take_off(
     share: u32,
     holdings: &mut Holdings,
 ) -> Result<(), ChoiceFault>
-    requires inside { ⌜ Within (now graph .count + now graph .count) (marked (now after .marks)) (marked (now before .marks)) ⌝ }
+    requires inside { ⌜ Within (node-count (now graph)) (set-of (now after)) (set-of (now before)) ⌝ }
     requires small { ⌜ share ≤ share-unit * most-weight ⌝ }
-    ensures { λ r. ⌜ Cases r (λ _. (short (now (graph .entry) .count + now (graph .entry) .count) (linked (now (graph .entry) .rows)) (marked (now (free .entry) .marks)) (marked (now (before .entry) .marks)) (marked (now (after .entry) .marks)) (holds (now (holdings .entry) .amounts)) share ≡ false) × (holds (now (holdings .exit) .amounts) ≡ taken-off (now (graph .entry) .count + now (graph .entry) .count) (linked (now (graph .entry) .rows)) (marked (now (free .entry) .marks)) (marked (now (before .entry) .marks)) (marked (now (after .entry) .marks)) (holds (now (holdings .entry) .amounts)) share)) (λ e. (e ≡ HoldsTooLittle) × (short (now (graph .entry) .count + now (graph .entry) .count) (linked (now (graph .entry) .rows)) (marked (now (free .entry) .marks)) (marked (now (before .entry) .marks)) (marked (now (after .entry) .marks)) (holds (now (holdings .entry) .amounts)) share ≡ true)) ⌝ }
+    ensures { λ r. ⌜ TakesOff (node-count (now (graph .entry))) (edges (now (graph .entry))) (set-of (now (free .entry))) (set-of (now (before .entry))) (set-of (now (after .entry))) share (holds (now (holdings .entry) .amounts)) (holds (now (holdings .exit) .amounts)) r ⌝ }
 {
     for node in 0..graph.nodes() {
         if after.contains(node) && free.contains(node) {

@@ -1,6 +1,6 @@
 //! The second stage: leaving picks out again.
 ghost use mathlib.Core.Path.{_≡_};
-ghost use Rattle.graph.specs.Marks.{marked};
+ghost use Rattle.graph.specs.Read.{set-of};
 ghost use Rattle.cutset.specs.Method.{held};
 ghost use Rattle.cutset.specs.Tables.{picked};
 use crate::picks::Picks;
@@ -11,7 +11,7 @@ use plan::Source;
 /// The picks that stay: from the last back to the first, each is left out if the others still held, with the taken measures, leave no
 /// cycle of the split graph.
 pub fn leave_out<S: Source>(source: &S, taken: &NumberSet, picks: &Picks) -> NumberSet
-    ensures { λ r. ⌜ marked (r .marks) ≡ held (S·Source .plan (now (source .entry))) (marked (now (taken .entry) .marks)) (picked (now (picks .entry))) ⌝ }
+    ensures { λ r. ⌜ set-of r ≡ held (S·Source .plan (now (source .entry))) (set-of (now (taken .entry))) (picked (now (picks .entry))) ⌝ }
 {
     let graph = SplitGraph::of(source);
     let list = picks.as_slice();

@@ -1,4 +1,5 @@
-pub mod Marks
 pub mod Graphs
 pub mod Pruning
 pub mod Split
+pub mod Marks
+pub mod Read

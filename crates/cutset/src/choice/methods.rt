@@ -2,7 +2,7 @@
 ghost use mathlib.Core.Path.{_≡_};
 ghost use Prim.Native.Nat.{suc, _+_, _*_, _≤_};
 ghost use lib.ListN.{length, take};
-ghost use Rattle.graph.specs.Marks.{marked};
+ghost use Rattle.graph.specs.Read.{set-of};
 ghost use Rattle.cutset.specs.Method.{most-settings, capped, choice-of};
 ghost use Rattle.cutset.specs.Tables.{told};
 use crate::choice::Cutset;
@@ -37,7 +37,7 @@ impl Cutset {
 
     /// What is told of the measures in `held`.
     pub(crate) fn of<S: Source>(source: &S, held: &NumberSet) -> Cutset
-        ensures { λ r. ⌜ told r ≡ choice-of (S·Source .plan (now (source .entry))) (marked (now (held .entry) .marks)) ⌝ }
+        ensures { λ r. ⌜ told r ≡ choice-of (S·Source .plan (now (source .entry))) (set-of (now (held .entry))) ⌝ }
     {
         let mut members = [0; MOST_MEASURES];
         let mut count = 0;

@@ -4,7 +4,7 @@ ghost use mathlib.Core.Path.{_≡_};
 ghost use Prim.Native.Nat.{_<_};
 ghost use Rattle.plan.specs.Limits.{most-measures};
 ghost use Rattle.plan.specs.Sums.{among};
-ghost use Rattle.graph.specs.Marks.{marked};
+ghost use Rattle.graph.specs.Read.{set-of};
 ghost use Rattle.cutset.specs.Method.{measures};
 ghost use Rattle.cutset.specs.Tables.{picked};
 use crate::pick::Pick;
@@ -44,7 +44,7 @@ impl Picks {
 
     /// The set of the picked measures.
     pub fn set(&self) -> NumberSet
-        ensures { λ r. ⌜ marked (r .marks) ≡ among (measures (picked (now (self .entry)))) ⌝ }
+        ensures { λ r. ⌜ set-of r ≡ among (measures (picked (now (self .entry)))) ⌝ }
     {
         let mut set = NumberSet::empty();
         for pick in self.as_slice() {

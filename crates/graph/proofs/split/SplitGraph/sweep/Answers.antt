@@ -8,7 +8,7 @@ use Rattle.graph.specs.Graphs.{Adj, deg}
 use Rattle.graph.specs.Marks.{marked, linked}
 use Rattle.graph.proofs.Pruning.{Sweeping, sweeping-none, sweeping-goes, sweeping-stays, sweeping-all}
 use Rattle.graph.proofs.split.SplitGraph.sweep.Needs as need
-use Rattle.graph.proofs.split.SplitGraph.sweep.Needs.{then-contains·then-degree-le1, else-contains, else-contains·by·then-contains·else-degree-le1, else-contains·by·else-contains}
+use Rattle.graph.proofs.split.SplitGraph.sweep.Needs.{then-contains·then-degree-le-FEW-EDGES, else-contains, else-contains·by·then-contains·else-degree-le-FEW-EDGES, else-contains·by·else-contains}
 
 pub loop-node-holds : need.loop-node-holds
 loop-node-holds c =
@@ -23,17 +23,17 @@ loop-node-again c =
     let i = c .loop-node .node in
     let went = c .loop-node .went in
     elim (c .if-contains .came) [
-      | then-contains·then-degree-le1 w ↦
+      | then-contains·then-degree-le-FEW-EDGES w ↦
           let here : C i ≡ true = sym (c .contains .ensures) ∙ w .if-contains .taken in
           let e : marked (c .if-contains .nodes .marks) ≡ without C i = ap (λ s. marked (s .marks)) (w .nodes-is) ∙ w .remove .ensures in
           let P : Set → Type 0 = λ D. Sweeping n adj U D (i + 1) true in
           let Q : Bool → Type 0 = λ b. Sweeping n adj U (marked (c .if-contains .nodes .marks)) (i + 1) b in
           subst Q (sym (w .went-is)) (subst P (sym e)
-          (sweeping-goes n adj U C i went (c .loop-node .inv) (omega arith) here (omega (arith, w .degree .ensures, w .if-degree-le1 .taken))))
+          (sweeping-goes n adj U C i went (c .loop-node .inv) (omega arith) here (omega (arith, w .degree .ensures, w .if-degree-le-FEW-EDGES .taken))))
       | else-contains w ↦
           let two : C i ≡ true → 2 ≤ deg n adj C i =
           elim (w .else-contains .came) [
-            | else-contains·by·then-contains·else-degree-le1 w′ ↦ λ e. omega (arith, w′ .degree .ensures, w′ .if-degree-le1 .left)
+            | else-contains·by·then-contains·else-degree-le-FEW-EDGES w′ ↦ λ e. omega (arith, w′ .degree .ensures, w′ .if-degree-le-FEW-EDGES .left)
             | else-contains·by·else-contains w′ ↦ λ e. absurd (both-ways (C i) (sym (c .contains .ensures) ∙ w′ .if-contains .left) e)
           ] in
           let P : Set → Type 0 = λ D. Sweeping n adj U D (i + 1) went in
