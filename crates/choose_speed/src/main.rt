@@ -4,19 +4,20 @@ use graph::NumberSet;
 use plan::Source;
 use sources::Card;
 use sources::CardSource;
+use sources::LONGEST_CARD;
 use std::error::AnyError;
 use std::io::Read;
 use std::time::Instant;
 
-/// One byte more than the longest card, so that a card that is too long shows.
-const MOST_INPUT: u64 = 50_193;
+/// The most bytes that are read: one more than the longest card has, so that a longer one is seen to be too long.
+const MOST_READ: u64 = LONGEST_CARD as u64 + 1;
 
 /// How often the choice is made.
 const ROUNDS: u32 = 200;
 
 fn main(rt: LibcRuntime) -> Result<(), AnyError> {
     let mut card = Vec::new(rt.alloc());
-    rt.stdin().take(MOST_INPUT).read_to_end(&mut card)?;
+    rt.stdin().take(MOST_READ).read_to_end(&mut card)?;
     let source = Card::open(card.as_slice());
     let taken = NumberSet::empty();
     let measures = source.count();

@@ -5,7 +5,7 @@ ghost use Rattle.std.specs.Written.{decimal};
 ghost use Rattle.host.specs.Text.{Wrote};
 
 /// Writes a word at a place, and answers where it ends.
-pub fn put_word(row: &mut [u8], at: usize, word: &[u8]) -> usize
+pub(crate) fn put_word(row: &mut [u8], at: usize, word: &[u8]) -> usize
     requires { ⌜ at + length (now word) ≤ length (now row) ⌝ }
     ensures { λ r. ⌜ Wrote (now (row .entry)) (now (row .exit)) at r (now (word .entry)) ⌝ }
 {
@@ -15,7 +15,7 @@ pub fn put_word(row: &mut [u8], at: usize, word: &[u8]) -> usize
 }
 
 /// Writes a number in base ten at a place, and answers where it ends.
-pub fn put_number(row: &mut [u8], at: usize, n: usize) -> usize
+pub(crate) fn put_number(row: &mut [u8], at: usize, n: usize) -> usize
     requires { ⌜ at + length (decimal n) ≤ length (now row) ⌝ }
     ensures { λ r. ⌜ Wrote (now (row .entry)) (now (row .exit)) at r (decimal n) ⌝ }
 {

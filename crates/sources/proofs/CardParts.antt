@@ -1,7 +1,7 @@
 -- A card's checks in four parts: the header, the records, the total, the entries. The first fault of a part is the card's where the parts
 -- before it fail no check.
 use Prim.Native.Nat.{ℕ}
-use mathlib.Core.List.{List, [], _∷_, _++_}
+use mathlib.Core.List.{List, _++_}
 use mathlib.Core.Path.{_≡_, _∙_}
 use Rattle.std.specs.declared.option.Option.the-variants.{Some, None}
 use Rattle.sources.specs.First.{Check, first-failing, each-below}

@@ -1,7 +1,7 @@
 -- The length of a table: its bound, and its product driver by driver.
 use Prim.Native.Nat.{ℕ, zero, suc, _+_, _*_, _^_, _<_, _≤_}
 use mathlib.Core.List.{List, [], _∷_, _++_, map}
-use mathlib.Core.Path.{_≡_, refl, sym, ap, subst, _∙_}
+use mathlib.Core.Path.{_≡_, sym, ap, subst, _∙_}
 use native.Mathlib.Nat.{mul-assoc, mul-comm, mul-le-mul, pow-succ', pow-le-pow-right}
 use native.Mathlib.Omega.{arith}
 use lib.ListN.{length, getD, take, length-take}
@@ -17,6 +17,10 @@ use Rattle.sources.specs.Passed.{RecordPassed, RecordsPassed}
 -- a table reads at most four measures of at most eight classes
 abbrev pub most-length : ℕ
 most-length = 4096
+
+-- the most choices of classes of the drivers of a measure
+abbrev pub most-choices : ℕ
+most-choices = 512
 
 product-push : (xs : List ℕ) (x : ℕ) → product (xs ++ x ∷ []) ≡ product xs * x
 product-push [] x = omega arith
@@ -61,7 +65,7 @@ module _ (bs : List ℕ) (m : ℕ) (passed : RecordsPassed bs (m + 1)) where
       let lower : driver-byte bs m k < m = own .lower-driver k used in
       subst (λ (d : ℕ). classes-of bs d ≤ most-classes) (sym (getD-drivers bs m k used few)) (passed (driver-byte bs m k) (omega arith) .few-classes))
 
-  pub classes-product-bounded : (k : ℕ) → classes-product bs m k ≤ 512
+  pub classes-product-bounded : (k : ℕ) → classes-product bs m k ≤ most-choices
   classes-product-bounded k =
       let xs : List ℕ = map (classes-of bs) (take k (drivers-of bs m)) in
       let small : All (λ x. x ≤ most-classes) xs =
@@ -73,7 +77,7 @@ module _ (bs : List ℕ) (m : ℕ) (passed : RecordsPassed bs (m + 1)) where
 
   pub length-bounded : length-of bs m ≤ most-length
   length-bounded =
-      let bound : classes-product bs m (driver-count-of bs m) * classes-of bs m ≤ 512 * most-classes =
+      let bound : classes-product bs m (driver-count-of bs m) * classes-of bs m ≤ most-choices * most-classes =
       mul-le-mul (classes-product-bounded (driver-count-of bs m)) (own .few-classes) in
       omega (arith, bound, classes-product-all bs m)
 
@@ -98,6 +102,6 @@ table-step bs m k sofar used few inv =
 -- what the loop holds times one class number more stays small
 pub table-step-small : (bs : List ℕ) (m k length-so-far : ℕ) → RecordsPassed bs (m + 1) → length-so-far ≡ classes-product bs m k * classes-of bs m → (c : ℕ) → c < 256 → length-so-far * c ≤ most-length * 256
 table-step-small bs m k sofar passed inv c small =
-    let bound : classes-product bs m k * classes-of bs m ≤ 512 * most-classes =
+    let bound : classes-product bs m k * classes-of bs m ≤ most-choices * most-classes =
     mul-le-mul (classes-product-bounded bs m passed k) (passed m (omega arith) .few-classes) in
     mul-le-mul {n₁ = sofar} {m₁ = c} {n₂ = most-length} {m₂ = 256} (omega arith) (omega arith)

@@ -3,19 +3,22 @@ use Prim.Native.Nat.{ℕ, _+_, _<_, _≤_}
 use mathlib.Core.Bool.{true, cond}
 use mathlib.Core.List.{List, []}
 use mathlib.Core.Logic.{⊎-elim}
-use mathlib.Core.Path.{_≡_, refl, sym, ap, subst, _∙_}
+use mathlib.Core.Path.{_≡_, sym, ap, subst, _∙_}
 use native.Mathlib.Omega.{arith}
 use lib.Dec.{ltb}
 use lib.ListN.{length}
 use borrow.Author.Tests.{lt-ltb, le-ltb}
 use Rattle.std.specs.declared.option.Option.the-variants.{Some, None}
-use Rattle.plan.specs.Limits.{never}
-use Rattle.plan.specs.Plan.{Plan, no-measures}
-use Rattle.sources.specs.FirstLaws.{none-or-some}
-use Rattle.sources.specs.Layout.{record-length, measures-of, entries-of, record-at, classes-of, barred-of, drivers-of, weight-of, length-of, start-of, entry-of}
-use Rattle.sources.specs.LayoutLaws.{earlier-lengths-within}
+use Rattle.std.specs.Finite.{nth}
+use Rattle.std.proofs.shelf.Maps.{nth-getD}
+use Rattle.plan.specs.Limits.{most-drivers, never}
+use Rattle.plan.specs.Plan.{no-measures, driver-at}
+use Rattle.sources.specs.FirstLaws.{none-or-some, below-or-not}
+use Rattle.sources.specs.Layout.{record-length, measures-of, entries-of, record-at, byte, classes-of, barred-of, driver-count-of, driver-byte, drivers-of, weight-of, length-of, start-of, entry-of}
+use Rattle.sources.specs.LayoutLaws.{length-drivers, getD-drivers, earlier-lengths-within}
 use Rattle.sources.specs.Checks.{card-fault}
 use Rattle.sources.specs.Card.{read-card, plan-unless, card-plan}
+use Rattle.sources.specs.CardLawful.{card-lawful}
 use Rattle.sources.specs.Passed.{CardPassed}
 use Rattle.sources.specs.PassedLaws.{card-passed}
 use Rattle.sources.specs.declared.fault.CardFault.{CardFault}
@@ -87,3 +90,23 @@ outside-entry bs m place out =
 pub entry-within : (bs : List ℕ) (m place : ℕ) → Inside bs m → place < length-of bs m → start-of bs m + place < entries-of bs
 entry-within bs m place known below =
     omega (arith, known .passed .records m (known .below) .start-read, earlier-lengths-within bs (measures-of bs) m (known .below), known .passed .total)
+
+-- what has a driver is a measure of the plan
+pub driven-inside : (bs : List ℕ) → ((k : ℕ) → byte bs k < 256) → (m k : ℕ) → k < length (card-plan bs .drivers m) → m < card-plan bs .count
+driven-inside bs octets m k used =
+    ⊎-elim
+    (λ within. within)
+    (λ (out : card-plan bs .count ≤ m).
+    let none : length (card-plan bs .drivers m) ≡ 0 = ap length (card-lawful bs octets .outside m out .no-driver) in
+    absurd (omega arith))
+    (below-or-not m (card-plan bs .count))
+
+-- a position that has a driver is one of the three, and its driver is the byte there
+pub driver-read : (bs : List ℕ) (m k : ℕ) → Inside bs m → k < length (card-plan bs .drivers m) → (k < most-drivers) × (Some (driver-byte bs m k) ≡ driver-at (card-plan bs) m k)
+driver-read bs m k known used =
+    let used′ : k < length (drivers-of bs m) = subst (λ ds. k < length ds) (sym (known .drivers)) used in
+    let few : k < most-drivers = omega (arith, length-drivers bs m) in
+    let count : k < driver-count-of bs m = omega (arith, length-drivers bs m) in (
+      few,
+      ap Some (sym (getD-drivers bs m k count few)) ∙ sym (nth-getD (drivers-of bs m) k 0 used′) ∙ ap (λ ds. nth ds k) (known .drivers),
+    )

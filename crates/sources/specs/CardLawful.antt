@@ -1,9 +1,9 @@
--- The plan of a card is lawful, whatever its bytes. A card owes this as a source, by a ghost member, and that can cite only what stands in
--- specs; so this theorem and the laws that it takes are here and not among the proofs.
-use Prim.Native.Nat.{ℕ, zero, suc, _+_, _*_, _<_, _≤_}
+-- The plan of a card is lawful, whatever its bytes; that each of them is below 256 bounds the weights. A card owes this as a source, by a
+-- ghost member, and that can cite only what stands in specs; so this theorem and the laws that it takes are here and not among the proofs.
+use Prim.Native.Nat.{ℕ, zero, suc, _+_, _<_, _≤_}
 use mathlib.Core.Bool.{Bool, true, false, cond, _||_}
 use mathlib.Core.List.{List, [], _∷_, _++_, map}
-use mathlib.Core.Logic.{_≢_, inl, inr}
+use mathlib.Core.Logic.{_≢_, inr}
 use mathlib.Core.Path.{_≡_, refl, sym, ap, subst, _∙_}
 use native.Mathlib.Omega.{arith}
 use lib.Dec.{eqb, ltb}
@@ -13,13 +13,13 @@ use borrow.Author.Tests.{ltb-true, ltb-false, lt-ltb, le-ltb, eqb-false, both-wa
 use Rattle.std.specs.declared.option.Option.{Option}
 use Rattle.std.specs.declared.option.Option.the-variants.{Some, None}
 use Rattle.plan.specs.Limits.{most-classes, most-drivers, most-weight, never}
-use Rattle.plan.specs.Plan.{Plan, Lawful, Outside, Entry, table-length, no-measures}
+use Rattle.plan.specs.Plan.{Lawful, Entry, table-length, no-measures}
 use Rattle.plan.specs.Sums.{among, product}
 use Rattle.sources.specs.Layout.{byte, measures-of, record-at, classes-of, barred-of, driver-count-of, driver-byte, drivers-of, weight-of, length-of, start-of, entry-of}
 use Rattle.sources.specs.LayoutLaws.{length-drivers, getD-drivers, earlier-lengths-within}
 use Rattle.sources.specs.Checks.{card-fault}
 use Rattle.sources.specs.Card.{read-card, plan-unless, card-plan}
-use Rattle.sources.specs.Passed.{RecordPassed, CardPassed}
+use Rattle.sources.specs.Passed.{CardPassed}
 use Rattle.sources.specs.PassedLaws.{card-passed}
 use Rattle.sources.specs.declared.fault.CardFault.{CardFault}
 

@@ -1,6 +1,6 @@
 -- The checks of a card, in their order: the header in rising place, the length, the records byte by byte, the total of the entries, the
 -- entries.
-use Prim.Native.Nat.{ℕ, _+_, _*_}
+use Prim.Native.Nat.{ℕ, _+_}
 use mathlib.Core.Bool.{not, cond, _&&_, _||_}
 use mathlib.Core.List.{List, [], _∷_, _++_}
 use lib.Dec.{eqb, leb, ltb}

@@ -1,13 +1,13 @@
 -- What is known past each part of a card's checks, from no check of it failing. These laws stand here and not among the proofs for the
 -- same reason as FirstLaws.
-use Prim.Native.Nat.{ℕ, zero, suc, _+_, _*_, _<_, _≤_}
+use Prim.Native.Nat.{ℕ, zero, suc, _+_, _<_, _≤_}
 use mathlib.Core.Bool.{Bool, true, false, not, cond, _&&_, _||_}
-use mathlib.Core.List.{List, [], _∷_, _++_}
+use mathlib.Core.List.{List, _++_}
 use mathlib.Core.Logic.{inl, inr}
 use mathlib.Core.Path.{_≡_, refl, sym, ap, _∙_}
 use native.Mathlib.Omega.{arith}
 use lib.Dec.{eqb, leb, ltb}
-use lib.ListN.{length, take}
+use lib.ListN.{take}
 use borrow.Author.Tests.{lt-ltb, ltb-true, leb-true, eqb-true, not-true, both-ways}
 use Rattle.std.specs.declared.option.Option.the-variants.{None}
 use Rattle.plan.specs.Limits.{most-classes, most-drivers, most-alteration, never}

@@ -35,7 +35,9 @@ use plan::Source;
 pub struct Card<'a> {
     bytes: &'a [u8],
     count: u8,
+    // the number of measures of the plan
     ghost opened: { count ≡ card-plan (now bytes) .count },
+    // what a byte is, which bounds the weights
     ghost octets: { (k : ℕ) → byte (now bytes) k < 256 },
 }
 
@@ -90,7 +92,11 @@ pub impl<'a> Source for Card<'a> as CardSource {
     }
 
     fn barred(&self, m: u8) -> bool {
-        m >= self.count || self.bytes[record_place(m) + BARRED] == IS_BARRED
+        if m < self.count {
+            self.bytes[record_place(m) + BARRED] == IS_BARRED
+        } else {
+            true
+        }
     }
 
     fn drivers(&self, m: u8) -> u8 {
@@ -102,7 +108,7 @@ pub impl<'a> Source for Card<'a> as CardSource {
     }
 
     fn driver(&self, m: u8, position: u8) -> Option<u8> {
-        if m < self.count && position < self.bytes[record_place(m) + DRIVER_COUNT] {
+        if position < self.drivers(m) {
             Some(self.bytes[record_place(m) + DRIVERS + position as usize])
         } else {
             None

@@ -15,7 +15,7 @@ use plan::MOST_ALTERATION;
 use plan::NEVER;
 
 /// Checks the entries of all tables in their order: each is an alteration within the limit, or never.
-pub fn check_entries(bytes: &[u8], header: Header) -> Result<(), CardFault>
+pub(crate) fn check_entries(bytes: &[u8], header: Header) -> Result<(), CardFault>
     requires { ⌜ HeaderPassed (now bytes) (header .measures) (header .entries) ⌝ }
     ensures { λ r. ⌜ Cases r (λ _. first-failing (each-below (entries-of (now (bytes .entry))) (entry-checks (now (bytes .entry)))) ≡ None) (λ e. first-failing (each-below (entries-of (now (bytes .entry))) (entry-checks (now (bytes .entry)))) ≡ Some e) ⌝ }
 {

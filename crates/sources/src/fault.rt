@@ -60,7 +60,7 @@ impl CardFault {
 }
 
 /// Passes where the test holds, and refuses with the fault where it does not.
-pub fn require(holds: bool, fault: CardFault) -> Result<(), CardFault>
+pub(crate) fn require(holds: bool, fault: CardFault) -> Result<(), CardFault>
     ensures { λ r. ⌜ Cases r (λ _. holds ≡ true) (λ e. (holds ≡ false) × (e ≡ fault)) ⌝ }
 {
     if holds { Ok(()) } else { Err(fault) }

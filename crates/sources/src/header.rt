@@ -24,7 +24,7 @@ use plan::MOST_MEASURES;
 
 /// What the header of a card says of the rest of it.
 #[derive(Clone, Copy)]
-pub struct Header {
+pub(crate) struct Header {
     pub measures: u8,
     pub entries: u32,
 }
@@ -37,7 +37,7 @@ fn require_field(holds: bool, place: usize) -> Result<(), CardFault>
 }
 
 /// The header of a card, or the first fault of the header and of the card's length.
-pub fn check_header(bytes: &[u8]) -> Result<Header, CardFault>
+pub(crate) fn check_header(bytes: &[u8]) -> Result<Header, CardFault>
     ensures { λ r. ⌜ Cases r (λ h. HeaderPassed (now (bytes .entry)) (h .measures) (h .entries)) (λ e. first-failing (header-checks (now (bytes .entry))) ≡ Some e) ⌝ }
 {
     let length = bytes.len();

@@ -13,3 +13,4 @@ pub use fault::CardFault;
 pub use fault::CardFaultDebug;
 pub use fault::CardFaultDisplay;
 pub use fault::CardFaultPartialEq;
+pub use layout::LONGEST_CARD;

@@ -100,7 +100,7 @@ fn check_zero(bytes: &[u8], place: usize) -> Result<(), CardFault>
 }
 
 /// Checks the record of `m`, byte by byte; `earlier` is how many entries the tables before its own have.
-pub fn check_record(bytes: &[u8], m: u8, earlier: u32) -> Result<(), CardFault>
+pub(crate) fn check_record(bytes: &[u8], m: u8, earlier: u32) -> Result<(), CardFault>
     requires { ⌜ record-at m + record-length ≤ length (now bytes) ⌝ ∗ ⌜ m < most-measures ⌝ ∗ ⌜ earlier ≡ earlier-lengths (now bytes) m ⌝ }
     ensures { λ r. ⌜ Cases r (λ _. first-failing (record-checks (now (bytes .entry)) m) ≡ None) (λ e. first-failing (record-checks (now (bytes .entry)) m) ≡ Some e) ⌝ }
 {

@@ -17,7 +17,7 @@ use crate::layout::record_place;
 use crate::record::check_record;
 
 /// How many entries the table of `m` has: one for each choice of a class of its own and of each driver.
-pub fn table_length(bytes: &[u8], m: u8) -> u32
+pub(crate) fn table_length(bytes: &[u8], m: u8) -> u32
     requires { ⌜ record-at m + record-length ≤ length (now bytes) ⌝ ∗ ⌜ m < most-measures ⌝ ∗ ⌜ RecordsPassed (now bytes) (m + 1) ⌝ }
     ensures { λ r. ⌜ r ≡ length-of (now (bytes .entry)) m ⌝ }
 {
@@ -31,7 +31,7 @@ pub fn table_length(bytes: &[u8], m: u8) -> u32
 }
 
 /// Checks the records of all measures in their order, and answers how many entries their tables have together.
-pub fn check_records(bytes: &[u8], measures: u8) -> Result<u32, CardFault>
+pub(crate) fn check_records(bytes: &[u8], measures: u8) -> Result<u32, CardFault>
     requires { ⌜ record-at measures ≤ length (now bytes) ⌝ ∗ ⌜ measures ≤ most-measures ⌝ }
     ensures { λ r. ⌜ Cases r (λ total. (first-failing (each-below measures (record-checks (now (bytes .entry)))) ≡ None) × (total ≡ earlier-lengths (now (bytes .entry)) measures)) (λ e. first-failing (each-below measures (record-checks (now (bytes .entry)))) ≡ Some e) ⌝ }
 {

@@ -17,14 +17,15 @@ use plan::Source;
 use sources::Card;
 use sources::CardFaultDisplay;
 use sources::CardSource;
+use sources::LONGEST_CARD;
 use std::alloc::AllocError;
 use std::alloc::Global;
 use std::error::AnyError;
 use std::io::Read;
 use std::io::Write;
 
-/// One byte more than the longest card, so that a card that is too long shows.
-const MOST_INPUT: u64 = 50_193;
+/// The most bytes that are read: one more than the longest card has, so that a longer one is seen to be too long.
+const MOST_READ: u64 = LONGEST_CARD as u64 + 1;
 
 /// The members of a set below `count`, by name.
 fn named(heap: Global, set: &NumberSet, count: u8) -> Result<String, AllocError> {
@@ -173,7 +174,7 @@ fn show_listing(rt: &LibcRuntime, card: &[u8]) -> Result<(), AnyError> {
 
 fn main(rt: LibcRuntime) -> Result<(), AnyError> {
     let mut card = Vec::new(rt.alloc());
-    rt.stdin().take(MOST_INPUT).read_to_end(&mut card)?;
+    rt.stdin().take(MOST_READ).read_to_end(&mut card)?;
     let length = card.len();
     match Card::check(card.as_slice()) {
         Ok(()) => println!(rt, "The card has {length} bytes and no fault.")?,

@@ -1,15 +1,12 @@
-use Prim.Native.Nat.{ℕ, _+_, _≤_}
-use mathlib.Core.Path.{_≡_, refl, sym, ap, subst, _∙_}
+use Prim.Native.Nat.{_+_}
+use mathlib.Core.Path.{refl}
 use native.Mathlib.Numerals.{add-one}
 use native.Mathlib.Omega.{arith}
-use Rattle.std.specs.declared.option.Option.the-variants.{None}
 use Rattle.std.proofs.shelf.Results.{err-from-errBy}
 use Rattle.plan.specs.Sums.{over}
-use Rattle.sources.specs.First.{first-failing, each-below}
-use Rattle.sources.specs.Layout.{length-of, earlier-lengths}
+use Rattle.sources.specs.Layout.{earlier-lengths}
 use Rattle.sources.specs.LayoutLaws.{earlier-lengths-more}
 use Rattle.sources.specs.Checks.{record-checks}
-use Rattle.sources.specs.Passed.{RecordsPassed}
 use Rattle.sources.specs.PassedLaws.{records-passed}
 use Rattle.sources.proofs.Firsts.{none-fails-more, first-failing-below}
 use Rattle.sources.proofs.Lengths.{length-bounded, earlier-lengths-bounded}

@@ -3,9 +3,8 @@ use mathlib.Core.Path.{_≡_, sym, ap, _∙_}
 use Rattle.std.specs.declared.option.Option.the-variants.{Some, None}
 use Rattle.std.proofs.shelf.Results.{err-from-errBy, cases-weaker}
 use Rattle.sources.specs.First.{first-failing, each-below}
-use Rattle.sources.specs.Layout.{measures-of}
-use Rattle.sources.specs.Checks.{record-checks, total-checks, card-checks, card-fault}
-use Rattle.sources.proofs.CardParts.{of-records, header-fails, record-fails, total-fails, entries-remain}
+use Rattle.sources.specs.Checks.{record-checks, total-checks, card-checks}
+use Rattle.sources.proofs.CardParts.{header-fails, record-fails, total-fails, entries-remain}
 use Rattle.sources.proofs.Firsts.{none-fails-first, some-fails-first}
 use Rattle.sources.proofs.card.Card.check.Needs as need
 

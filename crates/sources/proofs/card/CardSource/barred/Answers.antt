@@ -3,7 +3,6 @@ use mathlib.Core.Path.{sym, ap, _∙_}
 use native.Mathlib.Omega.{arith}
 use lib.Dec.{eqb}
 use lib.ListN.{getD}
-use Rattle.std.proofs.shelf.Tests.{le-leb}
 use Rattle.sources.specs.CardLawful.{card-lawful}
 use Rattle.sources.proofs.Opened.{inside}
 use Rattle.sources.proofs.card.CardSource.barred.Needs as need
@@ -13,10 +12,9 @@ index-self-record-place c = let known = inside (c .args .self .now .bytes .now) 
 
 pub returns-then-m-self : need.returns-then-m-self
 returns-then-m-self c =
-    le-leb (c .args .self .now .count) (c .args .m) (c .if-m-self .taken)
-    ∙ sym (card-lawful (c .args .self .now .bytes .now) (c .args .self .now .octets) .outside (c .args .m) (omega arith) .not-held)
+    let bs = c .args .self .now .bytes .now in
+    ap (λ place. eqb (getD bs (place + 1) 0) 1) (c .record-place .ensures) ∙ inside bs (c .args .m) (omega arith) .barred
 
 pub returns-else-m-self : need.returns-else-m-self
 returns-else-m-self c =
-    let bs = c .args .self .now .bytes .now in
-    ap (λ place. eqb (getD bs (place + 1) 0) 1) (c .record-place .ensures) ∙ inside bs (c .args .m) (omega arith) .barred
+    sym (card-lawful (c .args .self .now .bytes .now) (c .args .self .now .octets) .outside (c .args .m) (omega arith) .not-held)

@@ -1,10 +1,9 @@
-use Prim.Native.Nat.{ℕ, _+_, _*_, _<_, _≤_}
+use Prim.Native.Nat.{_+_, _*_, _<_, _≤_}
 use mathlib.Core.Bool.{cond}
-use mathlib.Core.Path.{_≡_, sym, ap, subst, _∙_}
+use mathlib.Core.Path.{_≡_, sym, ap, _∙_}
 use native.Mathlib.Omega.{arith}
 use Rattle.std.proofs.shelf.Tests.{lt-ltb, le-ltb}
 use Rattle.plan.specs.Limits.{never}
-use Rattle.sources.specs.Card.{card-plan}
 use Rattle.sources.specs.Layout.{entry-length, le32, record-at, length-of, start-of, entry-of, measures-of}
 use Rattle.sources.proofs.Opened.{inside, outside-entry, entry-within}
 use Rattle.sources.proofs.card.CardSource.entry.Needs as need
