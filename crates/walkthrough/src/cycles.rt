@@ -22,7 +22,7 @@ fn touches(graph: &SplitGraph, x: usize, set: &NumberSet) -> bool {
 }
 
 /// Whether `node` lies on a cycle: whether two of its neighbours are joined by a way that does not pass through it.
-pub fn lies_on_cycle(graph: &SplitGraph, node: usize) -> bool {
+pub(crate) fn lies_on_cycle(graph: &SplitGraph, node: usize) -> bool {
     for start in 0..graph.nodes() {
         if graph.has_edge(node, start) {
             let reached = reached_without(graph, node, start);
@@ -35,7 +35,7 @@ pub fn lies_on_cycle(graph: &SplitGraph, node: usize) -> bool {
 }
 
 /// The measures whose value node or table node is in `nodes`.
-pub fn measures_in(graph: &SplitGraph, nodes: &NumberSet) -> NumberSet {
+pub(crate) fn measures_in(graph: &SplitGraph, nodes: &NumberSet) -> NumberSet {
     let count = graph.nodes() / 2;
     let mut measures = NumberSet::empty();
     for m in 0..count {
@@ -47,7 +47,7 @@ pub fn measures_in(graph: &SplitGraph, nodes: &NumberSet) -> NumberSet {
 }
 
 /// The measures that lie on a loop: those whose value node or table node lies on a cycle.
-pub fn measures_on_loops(graph: &SplitGraph) -> NumberSet {
+pub(crate) fn measures_on_loops(graph: &SplitGraph) -> NumberSet {
     let mut nodes = NumberSet::empty();
     for node in 0..graph.nodes() {
         if lies_on_cycle(graph, node) {

@@ -21,7 +21,7 @@ static NAMES: [&str; 16] = [
 ];
 
 /// What a measure is called; a card with more measures than the jacket has some with no name.
-pub fn name_of(measure: u8) -> &'static str {
+pub(crate) fn name_of(measure: u8) -> &'static str {
     let at = measure as usize;
     if at < NAMES.len() {
         NAMES[at]
