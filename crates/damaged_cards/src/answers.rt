@@ -17,7 +17,7 @@ pub struct Answers {
 }
 
 /// What has to be answered of a number that is no measure.
-pub const OUTSIDE: Answers = Answers {
+pub(crate) const OUTSIDE: Answers = Answers {
     classes: 0,
     weight: 0,
     barred: true,
@@ -28,7 +28,7 @@ pub const OUTSIDE: Answers = Answers {
 };
 
 /// What the card answers of `m`.
-pub fn ask(card: &Card, m: u8) -> Answers {
+pub(crate) fn ask(card: &Card, m: u8) -> Answers {
     Answers {
         classes: card.classes(m),
         weight: card.weight(m),

@@ -3,7 +3,7 @@ use std::alloc::AllocError;
 use std::alloc::Global;
 
 /// The length of the card.
-pub const LENGTH: usize = 152;
+pub(crate) const LENGTH: usize = 152;
 
 /// The header, of 4 measures and 18 entries, with the first record at 16 and the first entry at 80.
 const HEADER: [u8; 16] = [4, 0, 0, 0, 18, 0, 0, 0, 16, 0, 0, 0, 80, 0, 0, 0];
@@ -45,7 +45,7 @@ const ENTRIES: [[u8; 4]; 18] = [
 ];
 
 /// The bytes of the card.
-pub fn diamond(heap: Global) -> Result<Vec<u8>, AllocError> {
+pub(crate) fn diamond(heap: Global) -> Result<Vec<u8>, AllocError> {
     let mut card = Vec::new(heap);
     card.extend_from_slice(&HEADER)?;
     for record in &RECORDS {
