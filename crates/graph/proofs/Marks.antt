@@ -11,7 +11,7 @@ use lib.Seq.{getD-set-same, getD-set-other}
 use Rattle.std.proofs.shelf.Lists.{getD-past}
 use Rattle.std.proofs.shelf.Tests.{cases-lt, cases-eq, cases-bool, eq-eqb, ne-eqb, lt-ltb, le-ltb}
 use Rattle.plan.specs.Sums.{Set, minus, union, with, without}
-use Rattle.plan.proofs.Sets.{ltb-next}
+use Rattle.plan.proofs.Sets.{or-true, or-false, or-assoc, and-true, and-false, ltb-next}
 use Rattle.graph.specs.Marks.{marked, linked}
 use Rattle.graph.specs.Split.{joined}
 
@@ -24,26 +24,6 @@ marked-none n =
       | inl l ↦ getD-replicate n x false false l
       | inr g ↦ marked-past (replicate n false) x (simp length-replicate g)
     ])
-
-or-true : (b : Bool) → (b || true) ≡ true
-or-true true = refl
-or-true false = refl
-
-pub or-false : (b : Bool) → (b || false) ≡ b
-or-false true = refl
-or-false false = refl
-
-or-assoc : (a b c : Bool) → ((a || b) || c) ≡ (a || (b || c))
-or-assoc true b c = refl
-or-assoc false b c = refl
-
-and-true : (b : Bool) → (b && true) ≡ b
-and-true true = refl
-and-true false = refl
-
-and-false : (b : Bool) → (b && false) ≡ false
-and-false true = refl
-and-false false = refl
 
 pub marked-with : (bs : List Bool) (x : ℕ) → x < length bs → marked (set bs x true) ≡ with (marked bs) x
 unfolding with

@@ -11,10 +11,9 @@ use lib.ListN.{length, getD}
 use Rattle.std.proofs.shelf.Tests.{cases-lt, cases-eq, cases-bool, both-ways, and-parts, and-from, or-cases, or-from, ltb-true, leb-true, lt-ltb, le-ltb, le-leb, eqb-true, eq-eqb, ne-eqb}
 use Rattle.plan.specs.Sums.{Set, among}
 use Rattle.plan.specs.Plan.{Plan, Lawful, scope}
-use Rattle.plan.proofs.Sets.{among-append, among-place, same-test, ltb-next}
+use Rattle.plan.proofs.Sets.{or-false, among-append, among-place, same-test, ltb-next}
 use Rattle.graph.specs.Graphs.{Adj}
 use Rattle.graph.specs.Split.{remaining, split, value-table, joined, linked-to}
-use Rattle.graph.proofs.Marks.{or-false}
 
 pub remaining-below : (k : ℕ) (T : Set) (x : ℕ) → remaining k T x ≡ true → x < k + k
 unfolding remaining

@@ -11,6 +11,27 @@ use Rattle.std.proofs.shelf.Tests.{cases-lt, cases-bool, lt-ltb, le-ltb, both-w
 use Rattle.plan.specs.Sums.{Set, on, size, among, minus, meet, with, single, without, Within}
 use Rattle.plan.proofs.Sums.{Parts, size-parts, size-member, size-single}
 
+-- tests joined with a known one
+pub or-true : (b : Bool) → (b || true) ≡ true
+or-true true = refl
+or-true false = refl
+
+pub or-false : (b : Bool) → (b || false) ≡ b
+or-false true = refl
+or-false false = refl
+
+pub or-assoc : (a b c : Bool) → ((a || b) || c) ≡ (a || (b || c))
+or-assoc true b c = refl
+or-assoc false b c = refl
+
+pub and-true : (b : Bool) → (b && true) ≡ b
+and-true true = refl
+and-true false = refl
+
+pub and-false : (b : Bool) → (b && false) ≡ false
+and-false true = refl
+and-false false = refl
+
 pub minus-in : (X Y : Set) (x : ℕ) → minus X Y x ≡ true → (X x ≡ true) × (Y x ≡ false)
 unfolding minus
 minus-in X Y x e = let i = and-parts (X x) (not (Y x)) e in (i .0, not-true (Y x) (i .1))
@@ -87,8 +108,4 @@ among-place (z ∷ zs) x e =
 -- a list with one more at its end has one member more
 pub among-push : (xs : List ℕ) (x : ℕ) → among (xs ++ (x ∷ [])) ≡ with (among xs) x
 unfolding with
-among-push xs x = fun-ext (λ y. among-append xs (x ∷ []) y ∙ ap (λ b. among xs y || b) (or-none (eqb y x)))
-  where
-    or-none : (b : Bool) → (b || false) ≡ b
-    or-none true = refl
-    or-none false = refl
+among-push xs x = fun-ext (λ y. among-append xs (x ∷ []) y ∙ ap (λ b. among xs y || b) (or-false (eqb y x)))

@@ -8,12 +8,13 @@ use native.Mathlib.Omega.{arith}
 use lib.Dec.{ltb}
 use lib.ListN.{length}
 use borrow.Author.Tests.{lt-ltb, le-ltb}
+use Rattle.std.proofs.shelf.Tests.{cases-lt}
 use Rattle.std.specs.declared.option.Option.the-variants.{Some, None}
 use Rattle.std.specs.Finite.{nth}
 use Rattle.std.proofs.shelf.Maps.{nth-getD}
 use Rattle.plan.specs.Limits.{most-drivers, never}
 use Rattle.plan.specs.Plan.{no-measures, driver-at}
-use Rattle.sources.specs.FirstLaws.{none-or-some, below-or-not}
+use Rattle.sources.specs.FirstLaws.{none-or-some}
 use Rattle.sources.specs.Layout.{record-length, measures-of, entries-of, record-at, byte, classes-of, barred-of, driver-count-of, driver-byte, drivers-of, weight-of, length-of, start-of, entry-of}
 use Rattle.sources.specs.LayoutLaws.{length-drivers, getD-drivers, earlier-lengths-within}
 use Rattle.sources.specs.Checks.{card-fault}
@@ -99,7 +100,7 @@ driven-inside bs octets m k used =
     (λ (out : card-plan bs .count ≤ m).
     let none : length (card-plan bs .drivers m) ≡ 0 = ap length (card-lawful bs octets .outside m out .no-driver) in
     absurd (omega arith))
-    (below-or-not m (card-plan bs .count))
+    (cases-lt m (card-plan bs .count))
 
 -- a position that has a driver is one of the three, and its driver is the byte there
 pub driver-read : (bs : List ℕ) (m k : ℕ) → Inside bs m → k < length (card-plan bs .drivers m) → (k < most-drivers) × (Some (driver-byte bs m k) ≡ driver-at (card-plan bs) m k)

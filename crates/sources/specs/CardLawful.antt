@@ -10,6 +10,7 @@ use lib.Dec.{eqb, ltb}
 use lib.ListN.{length, getD, take, length-take}
 use lib.Seq.{getD-take}
 use borrow.Author.Tests.{ltb-true, ltb-false, lt-ltb, le-ltb, eqb-false, both-ways}
+use Rattle.std.proofs.shelf.Tests.{or-parts}
 use Rattle.std.specs.declared.option.Option.{Option}
 use Rattle.std.specs.declared.option.Option.the-variants.{Some, None}
 use Rattle.plan.specs.Limits.{most-classes, most-drivers, most-weight, never}
@@ -30,10 +31,6 @@ by-limit P k limit x y below above = by-test (ltb k limit) refl
     by-test : (t : Bool) → ltb k limit ≡ t → P (cond t x y)
     by-test true e = below (ltb-true k limit e)
     by-test false e = above (ltb-false k limit e)
-
-or-parts : (x y : Bool) → (x || y) ≡ false → (x ≡ false) × (y ≡ false)
-or-parts true y h = absurd (both-ways true h refl)
-or-parts false y h = (refl, h)
 
 -- what is not among the members of a list is none of them
 among-none : (xs : List ℕ) (x : ℕ) → among xs x ≡ false → (k : ℕ) → k < length xs → getD xs k 0 ≢ x

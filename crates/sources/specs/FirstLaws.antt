@@ -6,8 +6,7 @@ use mathlib.Core.List.{List, [], _∷_, _++_}
 use mathlib.Core.Logic.{_⊎_, inl, inr, ⊎-elim}
 use mathlib.Core.Path.{_≡_, refl, sym, ap, subst, _∙_}
 use native.Mathlib.Omega.{arith}
-use lib.Dec.{ltb}
-use borrow.Author.Tests.{ltb-true, ltb-false}
+use Rattle.std.proofs.shelf.Tests.{cases-lt}
 use Rattle.std.specs.declared.option.Option.{Option}
 use Rattle.std.specs.declared.option.Option.the-variants.{Some, None}
 use Rattle.sources.specs.First.{Check, first-failing, each-below}
@@ -19,13 +18,6 @@ none-or-some (Some a) = inr (a, refl)
 
 pub none-not-some : {A : Type 0} {o : Option A} (a : A) → o ≡ None → o ≡ Some a → ⊥
 none-not-some a p q = let z : _≡_ {A = ℕ} 0 1 = cc in omega arith
-
-pub below-or-not : (j n : ℕ) → (j < n) ⊎ (n ≤ j)
-below-or-not j n = by-test (ltb j n) refl
-  where
-    by-test : (t : Bool) → ltb j n ≡ t → (j < n) ⊎ (n ≤ j)
-    by-test true e = inl (ltb-true j n e)
-    by-test false e = inr (ltb-false j n e)
 
 -- where no check of a list fails, the first holds and no later one fails
 pub none-fails-parts : {F : Type 0} (c : Check F) (cs : List (Check F)) → first-failing (c ∷ cs) ≡ None → (c .holds ≡ true) × (first-failing cs ≡ None)
@@ -76,4 +68,4 @@ none-fails-below (suc n) f none k h =
     ⊎-elim
     (λ (below : k < n). none-fails-below n f (parts .0) k below)
     (λ (above : n ≤ k). let same : n ≡ k = omega arith in subst (λ (j : ℕ). first-failing (f j) ≡ None) same (parts .1))
-    (below-or-not k n)
+    (cases-lt k n)

@@ -6,9 +6,9 @@ use mathlib.Core.Path.{_≡_, refl, ap, _∙_}
 use native.Mathlib.Omega.{arith}
 use lib.ListN.{length, getD, length-take}
 use lib.Seq.{getD-take}
+use Rattle.std.proofs.shelf.Tests.{cases-lt}
 use Rattle.plan.specs.Limits.{most-drivers}
 use Rattle.plan.specs.Sums.{over}
-use Rattle.sources.specs.FirstLaws.{below-or-not}
 use Rattle.sources.specs.Layout.{driver-count-of, driver-byte, drivers-of, length-of, earlier-lengths}
 
 -- the driver bytes in a row
@@ -43,4 +43,4 @@ earlier-lengths-within bs (suc n) m h =
     let same : m ≡ n = omega arith in
     let last : earlier-lengths bs (suc m) ≡ earlier-lengths bs (suc n) = ap (λ k. earlier-lengths bs (suc k)) same in
     omega (arith, last, earlier-lengths-more bs m))
-    (below-or-not m n)
+    (cases-lt m n)

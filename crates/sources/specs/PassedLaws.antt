@@ -9,6 +9,7 @@ use native.Mathlib.Omega.{arith}
 use lib.Dec.{eqb, leb, ltb}
 use lib.ListN.{take}
 use borrow.Author.Tests.{lt-ltb, ltb-true, leb-true, eqb-true, not-true, both-ways}
+use Rattle.std.proofs.shelf.Tests.{and-parts}
 use Rattle.std.specs.declared.option.Option.the-variants.{None}
 use Rattle.plan.specs.Limits.{most-classes, most-drivers, most-alteration, never}
 use Rattle.plan.specs.Plan.{Entry}
@@ -20,10 +21,6 @@ use Rattle.sources.specs.Checks.{driver-check, header-checks, record-checks, t
 use Rattle.sources.specs.Passed.{HeaderPassed, RecordPassed, RecordsPassed, CardPassed}
 use Rattle.sources.specs.declared.fault.CardFault.{CardFault}
 use Rattle.sources.specs.declared.fault.CardFault.the-variants.{RecordByte, DriverByte}
-
-and-parts : (x y : Bool) → (x && y) ≡ true → (x ≡ true) × (y ≡ true)
-and-parts true y h = (refl, h)
-and-parts false y h = absurd (both-ways false refl h)
 
 pub header-passed : (bs : List ℕ) → first-failing (header-checks bs) ≡ None → HeaderPassed bs (measures-of bs) (entries-of bs)
 header-passed bs none =
