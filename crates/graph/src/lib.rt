@@ -1,4 +1,5 @@
 //! The split graph of a plan, and pruning.
+#![tactic(auto)]
 mod set;
 mod split;
 

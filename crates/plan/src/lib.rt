@@ -1,4 +1,5 @@
 //! What a plan of measures is, its limits, and the interface that a plan is read through.
+#![tactic(auto)]
 mod limits;
 mod source;
 

@@ -1,4 +1,5 @@
 //! The ways in which a plan arrives.
+#![tactic(auto)]
 mod card;
 mod entries;
 mod fault;
