@@ -1,5 +1,6 @@
 //! The ways in which a plan arrives.
 #![tactic(auto)]
+
 mod card;
 mod entries;
 mod fault;

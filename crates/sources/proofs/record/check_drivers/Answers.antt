@@ -16,7 +16,7 @@ returns-in-err-check-driver c =
 pub loop-position-preserved : goal.loop-position-preserved
 loop-position-preserved c =
     none_fails_more (λ k. driver_check c.args.bytes.now c.args.m k ∷ []) c.loop-position.position
-    c.loop-position.invariant c.in-ok-check-driver.ensures
+    c.loop-position.invariant c.in_ok-check_driver.ensures
 
 pub returns : goal.returns
 returns c =

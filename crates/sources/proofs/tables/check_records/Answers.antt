@@ -39,6 +39,6 @@ pub loop-m-preserved : goal.loop-m-preserved
 loop-m-preserved c =
     let bs = c.args.bytes.now in
     let m = c.loop-m.m in (
-      none_fails_more (record_checks bs) m c.loop-m.invariant.0 c.in-ok-check-record.ensures,
+      none_fails_more (record_checks bs) m c.loop-m.invariant.0 c.in_ok-check_record.ensures,
       (rw add-one (omega (arith, earlier_lengths_more bs m))),
     )

@@ -36,15 +36,15 @@ returns-in-err-require c =
 pub returns : goal.returns
 returns c =
     let bs = c.args.bytes.now in
-    let header = c.in-ok-header.ensures in
-    let records = c.in-ok-total.ensures in
+    let header = c.in_ok-header.ensures in
+    let records = c.in_ok-total.ensures in
     let none = ap (λ n. first_failing (each_below n (record_checks bs))) (sym header.measures_read) ∙ records.0 in
     let total : first_failing (total_checks bs) ≡ None = search rules in
     let remain = entries_remain bs header.none_fails none total in
     record {
-      told = MatchResult-weaker c.check-entries.result c.check-entries.ensures (λ _ h. remain ∙ h) (λ _ h. remain ∙ h);
+      told = MatchResult-weaker c.check_entries.result c.check_entries.ensures (λ _ h. remain ∙ h) (λ _ h. remain ∙ h);
       first =
-          MatchResult-weaker c.check-entries.result c.check-entries.ensures
+          MatchResult-weaker c.check_entries.result c.check_entries.ensures
           (λ _ h. none_fails_first (card_checks bs) (remain ∙ h))
           (λ e h. some_fails_first (card_checks bs) e (remain ∙ h));
     }

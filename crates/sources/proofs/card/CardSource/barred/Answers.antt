@@ -9,7 +9,7 @@ bounds-self-record-place c = let known = inside c.args.self.now.bytes.now c.args
 pub returns-then-m-self : goal.returns-then-m-self
 returns-then-m-self c =
     let bs = c.args.self.now.bytes.now in
-    ap (λ place. eqb (get_or bs (place + 1) 0) 1) c.record-place.ensures ∙ (inside bs c.args.m (omega arith)).barred
+    ap (λ place. eqb (get_or bs (place + 1) 0) 1) c.record_place.ensures ∙ (inside bs c.args.m (omega arith)).barred
 
 pub returns-else-m-self : goal.returns-else-m-self
 returns-else-m-self c =

@@ -10,7 +10,7 @@ bounds-self-record-place c = let known = inside c.args.self.now.bytes.now c.args
 pub returns-then-m-self : goal.returns-then-m-self
 returns-then-m-self c =
     let bs = c.args.self.now.bytes.now in
-    let at : c.record-place.result + 0 ≡ record_at c.args.m = omega (arith, c.record-place.ensures) in
+    let at : c.record_place.result + 0 ≡ record_at c.args.m = omega (arith, c.record_place.ensures) in
     ap (λ place. get_or bs place 0) at ∙ (inside bs c.args.m (omega arith)).classes
 
 pub returns-else-m-self : goal.returns-else-m-self

@@ -16,7 +16,7 @@ returns-then-position-drivers c =
     let bs = c.args.self.now.bytes.now in
     let used : c.args.position < length ((card_plan bs).drivers c.args.m) = omega (arith, c.drivers.ensures) in
     let known = inside bs c.args.m (driven_inside bs c.args.self.now.octets c.args.m c.args.position used) in
-    ap (λ place. Some (get_or bs (place + 4 + c.args.position) 0)) c.record-place.ensures
+    ap (λ place. Some (get_or bs (place + 4 + c.args.position) 0)) c.record_place.ensures
     ∙ (driver_read bs c.args.m c.args.position known used).1
 
 pub returns-else-position-drivers : goal.returns-else-position-drivers

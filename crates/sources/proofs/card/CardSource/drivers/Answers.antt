@@ -15,7 +15,7 @@ returns-then-m-self c =
     let known = inside bs m (omega arith) in
     let count : driver_count_of bs m ≡ length (drivers_of bs m) =
     omega (arith, length_drivers bs m, (known.passed.records m known.below).few_drivers) in
-    ap (λ place. get_or bs (place + 2) 0) c.record-place.ensures ∙ count ∙ ap length known.drivers
+    ap (λ place. get_or bs (place + 2) 0) c.record_place.ensures ∙ count ∙ ap length known.drivers
 
 pub returns-else-m-self : goal.returns-else-m-self
 returns-else-m-self c =

@@ -4,7 +4,7 @@ use Rattle.plan.specs.Limits.{never}
 use Rattle.sources.specs.Layout.{entry_length, le32, record_at, length_of, start_of, entry_of, measures_of}
 use Rattle.sources.proofs.Opened.{inside, outside_entry, entry_within}
 use Rattle.sources.proofs.card.CardSource.entry.Goals as goal
-use Rattle.sources.proofs.card.CardSource.entry.Goals.{else-m-self-via-then-m-self+else-place-table-length, else-m-self-via-else-m-self}
+use Rattle.sources.proofs.card.CardSource.entry.Goals.{else-m-self-via-then-m-self+else-place-table_length, else-m-self-via-else-m-self}
 
 pub table-length-requires : goal.table-length-requires
 table-length-requires c =
@@ -53,9 +53,9 @@ returns-else-m-self c =
     let m = c.args.m in
     let place = c.args.place in
     elim c.else-m-self.branch [
-      | else-m-self-via-then-m-self+else-place-table-length w ↦
+      | else-m-self-via-then-m-self+else-place-table_length w ↦
           let known = inside bs m (omega (arith, w.if-m-self.true)) in
-          let past : length_of bs m ≤ place = omega (arith, w.if-place-table-length.false, w.table_length.ensures) in
+          let past : length_of bs m ≤ place = omega (arith, w.if-place-table_length.false, w.table_length.ensures) in
           sym (ap (λ t. cond t (entry_of bs (start_of bs m + place)) never) (le-ltb place (length_of bs m) past)) ∙ known.entry place
       | else-m-self-via-else-m-self w ↦ outside_entry bs m place (omega (arith, w.if-m-self.false))
     ]

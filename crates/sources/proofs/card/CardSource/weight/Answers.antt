@@ -10,7 +10,7 @@ read-u16-requires c = let known = inside c.args.self.now.bytes.now c.args.m (ome
 pub returns-then-m-self : goal.returns-then-m-self
 returns-then-m-self c =
     let bs = c.args.self.now.bytes.now in
-    c.read-u16.ensures ∙ ap (λ place. le16 bs (place + 8)) c.record-place.ensures ∙ (inside bs c.args.m (omega arith)).weight
+    c.read_u16.ensures ∙ ap (λ place. le16 bs (place + 8)) c.record_place.ensures ∙ (inside bs c.args.m (omega arith)).weight
 
 pub returns-else-m-self : goal.returns-else-m-self
 returns-else-m-self c =
