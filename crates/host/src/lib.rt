@@ -1,4 +1,5 @@
 //! What a host asks of the panel: the listing of a card, as text in a row of bytes.
+#![tactic(auto)]
 mod listing;
 mod text;
 

@@ -1,4 +1,5 @@
 //! The fitting panel.
+#![tactic(auto)]
 mod refusal;
 
 pub use refusal::Refusal;

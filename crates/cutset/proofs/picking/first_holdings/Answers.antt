@@ -35,8 +35,8 @@ loop-m-preserved g c =
           )
     ]
 
-pub invariant-of-result : goal.invariant-of-result
-invariant-of-result g c =
+pub invariant_of-result : goal.invariant_of-result
+invariant_of-result g c =
     let p : Plan = g.S.Source.plan c.args.source.now in
     let law : Lawful p = g.S.Source.lawful c.args.source.now in (
       c.loop-m.invariant.0,

@@ -26,26 +26,26 @@ loop-measure-init g c =
     let T : Set = marked c.args.taken.now.marks in
     let k = c.of-graph.result.count in
     let adj : Adj = linked c.of-graph.result.rows in
-    let F : Set = marked c.unbarred-measures-free.result.marks in
+    let F : Set = marked c.unbarred_measures-free.result.marks in
     let C : Set = marked c.prune.new.nodes.marks in
-    let h : ℕ → ℕ = holds c.first-holdings-holdings.result.amounts in
-    let start = picks_start p T k adj F C h c.of-graph.ensures.count c.of-graph.ensures.edges c.unbarred-measures-free.ensures
-    (c.prune.ensures.value ∙ ap (prune (k + k) adj) c.without-nodes.ensures) c.first-holdings-holdings.ensures in
+    let h : ℕ → ℕ = holds c.first_holdings-holdings.result.amounts in
+    let start = picks_start p T k adj F C h c.of-graph.ensures.count c.of-graph.ensures.edges c.unbarred_measures-free.ensures
+    (c.prune.ensures.value ∙ ap (prune (k + k) adj) c.without-nodes.ensures) c.first_holdings-holdings.ensures in
     let few : size (k + k) (meet C F) ≤ k =
     size_below (k + k) k (meet C F)
     (λ x e. omega (
       arith,
       c.of-graph.ensures.count,
-      unbarred_below p x (sym (ap (λ (X : Set). X x) c.unbarred-measures-free.ensures) ∙ (meet_in C F x e).1),
+      unbarred_below p x (sym (ap (λ (X : Set). X x) c.unbarred_measures-free.ensures) ∙ (meet_in C F x e).1),
     )) in
     let P : List Pick → Type 0 = Picking (picks p T) k (k + k) adj F C h in
     subst P (sym c.none-picks.ensures) (picking_first k (k + k) adj F C h (picks p T) start c.prune.ensures.core.two_edged few)
 
-pub smallest-share-requires : goal.smallest-share-requires
-smallest-share-requires g c = c.loop-measure.invariant.two_edged
+pub smallest_share-requires : goal.smallest_share-requires
+smallest_share-requires g c = c.loop-measure.invariant.two_edged
 
-pub take-off-requires : goal.take-off-requires
-take-off-requires g c =
+pub take_off-requires : goal.take_off-requires
+take_off-requires g c =
     let k = c.of-graph.result.count in
     let adj : Adj = linked c.of-graph.result.rows in
     let C : Set = marked c.loop-measure.nodes.marks in
@@ -59,18 +59,18 @@ take-off-requires g c =
       small = omega (arith, found.1, share-le (k + k) adj C h m, c.loop-measure.holdings.bounded m);
     }
 
-pub returns-in-err-take-off : goal.returns-in-err-take-off
-returns-in-err-take-off g c =
+pub returns-in_err-take_off : goal.returns-in_err-take_off
+returns-in_err-take_off g c =
     let k = c.of-graph.result.count in
     let adj : Adj = linked c.of-graph.result.rows in
-    let F : Set = marked c.unbarred-measures-free.result.marks in
+    let F : Set = marked c.unbarred_measures-free.result.marks in
     let C : Set = marked c.loop-measure.nodes.marks in
     let D : Set = marked c.prune-in-Some.new.nodes.marks in
     let h : ℕ → ℕ = holds c.loop-measure.holdings.amounts in
     let m = c.in-Some.measure in
     let found = with_share_some (k + k) adj C h _ m c.in-Some.share c.in-Some.ensures in
-    let told = c.in-err-take-off.ensures in
-    let r = err_from_is_err_and c.from-residual.result c.from-residual.ensures.1 in
+    let told = c.in_err-take_off.ensures in
+    let r = err_from_is_err_and c.from_residual.result c.from_residual.ensures.1 in
     rw (r.1, r.2)
     (picking_short _ k (k + k) adj F C h (picked c.loop-measure.picks) c.loop-measure.invariant m found.0 D
     (c.prune-in-Some.ensures.value ∙ ap (prune (k + k) adj) c.remove.ensures)
@@ -81,7 +81,7 @@ pub push-requires : goal.push-requires
 push-requires g c =
     let k = c.of-graph.result.count in
     let adj : Adj = linked c.of-graph.result.rows in
-    let F : Set = marked c.unbarred-measures-free.result.marks in
+    let F : Set = marked c.unbarred_measures-free.result.marks in
     let C : Set = marked c.loop-measure.nodes.marks in
     let h : ℕ → ℕ = holds c.loop-measure.holdings.amounts in
     let m = c.in-Some.measure in
@@ -90,7 +90,7 @@ push-requires g c =
     let w = pick_present _ k (k + k) adj F C h (picked ps) c.loop-measure.invariant m found.0 in
     let some : 1 ≤ size (k + k) (meet C F) = size_member (k + k) (meet C F) m w.0 (meet_from C F m w.1 w.2) in
     let long : length (picked ps) ≡ ps.count = length-take-le ps.count ps.list (omega arith) in
-    let below = unbarred_below (g.S.Source.plan c.args.source.now) m (sym (ap (λ (X : Set). X m) c.unbarred-measures-free.ensures) ∙ w.2) in (
+    let below = unbarred_below (g.S.Source.plan c.args.source.now) m (sym (ap (λ (X : Set). X m) c.unbarred_measures-free.ensures) ∙ w.2) in (
       omega (arith, c.loop-measure.invariant.few, some, long, c.of-graph.result.few),
       omega (arith, below, c.of-graph.ensures.count, c.of-graph.result.few),
     )
@@ -99,7 +99,7 @@ pub loop-measure-smaller : goal.loop-measure-smaller
 loop-measure-smaller g c =
     let k = c.of-graph.result.count in
     let adj : Adj = linked c.of-graph.result.rows in
-    let F : Set = marked c.unbarred-measures-free.result.marks in
+    let F : Set = marked c.unbarred_measures-free.result.marks in
     let C : Set = marked c.loop-measure.nodes.marks in
     let h : ℕ → ℕ = holds c.loop-measure.holdings.amounts in
     let m = c.in-Some.measure in
@@ -112,15 +112,15 @@ loop-measure-preserved g c =
     let whole : Outcome = picks (g.S.Source.plan c.args.source.now) (marked c.args.taken.now.marks) in
     let k = c.of-graph.result.count in
     let adj : Adj = linked c.of-graph.result.rows in
-    let F : Set = marked c.unbarred-measures-free.result.marks in
+    let F : Set = marked c.unbarred_measures-free.result.marks in
     let C : Set = marked c.loop-measure.nodes.marks in
     let D : Set = marked c.prune-in-Some.new.nodes.marks in
     let h : ℕ → ℕ = holds c.loop-measure.holdings.amounts in
-    let h' : ℕ → ℕ = holds c.take-off.new.holdings.amounts in
+    let h' : ℕ → ℕ = holds c.take_off.new.holdings.amounts in
     let m = c.in-Some.measure in
     let ps : List Pick = picked c.loop-measure.picks in
     let found = with_share_some (k + k) adj C h _ m c.in-Some.share c.in-Some.ensures in
-    let told = c.in-ok-take-off.ensures in
+    let told = c.in_ok-take_off.ensures in
     let q : Pick = record { measure = m; share = share (k + k) adj C h m } in
     let same : q ≡ record { measure = m; share = c.in-Some.share } = ap (λ s. record { measure = m; share = s }) (sym found.1) in
     let P : List Pick → Type 0 = Picking whole k (k + k) adj F D h' in
@@ -130,23 +130,23 @@ loop-measure-preserved g c =
     (ap (short (k + k) adj F C D h) (sym found.1) ∙ told.0)
     (told.1 ∙ ap (taken_off (k + k) adj F C D h) found.1))
 
-pub returns-then-is-empty-below : goal.returns-then-is-empty-below
-returns-then-is-empty-below g c =
+pub returns-then-is_empty_below : goal.returns-then-is_empty_below
+returns-then-is_empty_below g c =
     let k = c.of-graph.result.count in
     let adj : Adj = linked c.of-graph.result.rows in
     let C : Set = marked c.loop-measure.nodes.marks in
     let h : ℕ → ℕ = holds c.loop-measure.holdings.amounts in
-    let none = with_share_none (k + k) adj C h _ c.in-default.ensures in
-    let z : eqb (size c.nodes.result C) 0 ≡ true = sym c.is-empty-below.ensures ∙ c.if-is-empty-below.true in
+    let none = with_share_none (k + k) adj C h _ c.in_default.ensures in
+    let z : eqb (size c.nodes.result C) 0 ≡ true = sym c.is_empty_below.ensures ∙ c.if-is_empty_below.true in
     picking_done _ k (k + k) adj _ C h (picked c.loop-measure.picks) c.loop-measure.invariant none
     (ap (λ n. size n C) (sym c.nodes.ensures) ∙ eqb-true (size c.nodes.result C) 0 z)
 
-pub returns-else-is-empty-below : goal.returns-else-is-empty-below
-returns-else-is-empty-below g c =
+pub returns-else-is_empty_below : goal.returns-else-is_empty_below
+returns-else-is_empty_below g c =
     let k = c.of-graph.result.count in
     let adj : Adj = linked c.of-graph.result.rows in
     let C : Set = marked c.loop-measure.nodes.marks in
     let h : ℕ → ℕ = holds c.loop-measure.holdings.amounts in
-    let none = with_share_none (k + k) adj C h _ c.in-default.ensures in
+    let none = with_share_none (k + k) adj C h _ c.in_default.ensures in
     picking_barred _ k (k + k) adj _ C h (picked c.loop-measure.picks) c.loop-measure.invariant none
-    (ap (λ n. eqb (size n C) 0) (sym c.nodes.ensures) ∙ sym c.is-empty-below.ensures ∙ c.if-is-empty-below.false)
+    (ap (λ n. eqb (size n C) 0) (sym c.nodes.ensures) ∙ sym c.is_empty_below.ensures ∙ c.if-is_empty_below.false)

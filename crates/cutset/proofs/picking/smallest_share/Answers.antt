@@ -13,8 +13,8 @@ use Rattle.cutset.proofs.picking.smallest_share.Goals.{then-contains+then-contai
 pub loop-node-init : goal.loop-node-init
 loop-node-init c = sym (ap (with_share _ _ _ _) (smallest_none_yet _ _))
 
-pub overflow-cast-share : goal.overflow-cast-share
-overflow-cast-share c =
+pub overflow_cast-share : goal.overflow_cast-share
+overflow_cast-share c =
     omega (
       arith,
       c.degree.ensures,

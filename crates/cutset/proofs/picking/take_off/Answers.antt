@@ -14,8 +14,8 @@ use Rattle.cutset.proofs.picking.take_off.Goals.{then-contains+then-contains-2+e
 pub loop-node-init : goal.loop-node-init
 loop-node-init c = paying_none _ _ _ _ _ _ _ c.args.holdings.now.amounts (λ v. refl)
 
-pub overflow-sub-went : goal.overflow-sub-went
-overflow-sub-went c =
+pub overflow_sub-went : goal.overflow_sub-went
+overflow_sub-went c =
     let n = c.args.graph.now.count + c.args.graph.now.count in
     omega (
       arith,
@@ -24,8 +24,8 @@ overflow-sub-went c =
       deg_mono n (linked c.args.graph.now.rows) (marked c.args.after.now.marks) (marked c.args.before.now.marks) c.loop-node.node c.requires.inside,
     )
 
-pub overflow-cast-due : goal.overflow-cast-due
-overflow-cast-due c =
+pub overflow_cast-due : goal.overflow_cast-due
+overflow_cast-due c =
     let n = c.args.graph.now.count + c.args.graph.now.count in
     omega (
       arith,
@@ -34,8 +34,8 @@ overflow-cast-due c =
       deg-le n (linked c.args.graph.now.rows) (marked c.args.before.now.marks) c.loop-node.node,
     )
 
-pub overflow-mul-due : goal.overflow-mul-due
-overflow-mul-due c =
+pub overflow_mul-due : goal.overflow_mul-due
+overflow_mul-due c =
     let n = c.args.graph.now.count + c.args.graph.now.count in
     let few = deg-le n (linked c.args.graph.now.rows) (marked c.args.before.now.marks) c.loop-node.node in
     let went = c.degree.result - c.degree-then-contains-2.result in

@@ -12,33 +12,33 @@ record Short (k w s : ℕ) : Type 0 where
 short : (k w s : ℕ) → k < 2 ^ 32 → w < 2 ^ 32 → s < 2 ^ 32 → Short k w s
 short k w s k-fits w_Fits s-fits = record { members = digits_u32 k k-fits; weight = digits_u32 w w_Fits; settings = digits_u32 s s-fits }
 
-pub put-number-at-requires : goal.put-number-at-requires
-put-number-at-requires c =
+pub put_number-at-requires : goal.put_number-at-requires
+put_number-at-requires c =
     let digits = short c.args.members c.args.weight c.args.settings (omega arith) (omega arith) (omega arith) in
     omega arith
 
-pub put-word-at-requires-2 : goal.put-word-at-requires-2
-put-word-at-requires-2 c =
+pub put_word-at-requires-2 : goal.put_word-at-requires-2
+put_word-at-requires-2 c =
     let digits = short c.args.members c.args.weight c.args.settings (omega arith) (omega arith) (omega arith) in
     omega arith
 
-pub put-number-at-requires-2 : goal.put-number-at-requires-2
-put-number-at-requires-2 c =
+pub put_number-at-requires-2 : goal.put_number-at-requires-2
+put_number-at-requires-2 c =
     let digits = short c.args.members c.args.weight c.args.settings (omega arith) (omega arith) (omega arith) in
     omega arith
 
-pub put-word-at-requires-3 : goal.put-word-at-requires-3
-put-word-at-requires-3 c =
+pub put_word-at-requires-3 : goal.put_word-at-requires-3
+put_word-at-requires-3 c =
     let digits = short c.args.members c.args.weight c.args.settings (omega arith) (omega arith) (omega arith) in
     omega arith
 
-pub put-number-at-requires-3 : goal.put-number-at-requires-3
-put-number-at-requires-3 c =
+pub put_number-at-requires-3 : goal.put_number-at-requires-3
+put_number-at-requires-3 c =
     let digits = short c.args.members c.args.weight c.args.settings (omega arith) (omega arith) (omega arith) in
     omega arith
 
-pub put-word-requires : goal.put-word-requires
-put-word-requires c =
+pub put_word-requires : goal.put_word-requires
+put_word-requires c =
     let digits = short c.args.members c.args.weight c.args.settings (omega arith) (omega arith) (omega arith) in
     omega arith
 
@@ -52,10 +52,10 @@ returns c =
           (wrote_both
           (wrote_both
           (wrote_both
-          (wrote_both (wrote_both c.put-word-at.ensures c.put-number-at.ensures) c.put-word-at-2.ensures)
-          c.put-number-at-2.ensures)
-          c.put-word-at-3.ensures)
-          c.put-number-at-3.ensures)
-          c.put-word.ensures;
+          (wrote_both (wrote_both c.put_word-at.ensures c.put_number-at.ensures) c.put_word-at-2.ensures)
+          c.put_number-at-2.ensures)
+          c.put_word-at-3.ensures)
+          c.put_number-at-3.ensures)
+          c.put_word.ensures;
       within = omega arith;
     }

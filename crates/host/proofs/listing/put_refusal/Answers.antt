@@ -4,20 +4,20 @@ use Rattle.host.proofs.Lengths.{digits_u8}
 use Rattle.host.proofs.Writes.{wrote_both}
 use Rattle.host.proofs.listing.put_refusal.Goals as goal
 
-pub put-number-at-requires : goal.put-number-at-requires
-put-number-at-requires c = omega (arith, digits_u8 c.number.result (omega arith))
+pub put_number-at-requires : goal.put_number-at-requires
+put_number-at-requires c = omega (arith, digits_u8 c.number.result (omega arith))
 
-pub put-place-at-requires : goal.put-place-at-requires
-put-place-at-requires c = omega (arith, digits_u8 c.number.result (omega arith))
+pub put_place-at-requires : goal.put_place-at-requires
+put_place-at-requires c = omega (arith, digits_u8 c.number.result (omega arith))
 
-pub put-word-requires : goal.put-word-requires
-put-word-requires c = omega (arith, digits_u8 c.number.result (omega arith))
+pub put_word-requires : goal.put_word-requires
+put_word-requires c = omega (arith, digits_u8 c.number.result (omega arith))
 
 pub returns : goal.returns
 unfolding refusal_line
 returns c = record {
   wrote =
       rw (← c.number.ensures, ← c.place.ensures)
-      (wrote_both (wrote_both (wrote_both c.put-word-at.ensures c.put-number-at.ensures) c.put-place-at.ensures.wrote) c.put-word.ensures);
+      (wrote_both (wrote_both (wrote_both c.put_word-at.ensures c.put_number-at.ensures) c.put_place-at.ensures.wrote) c.put_word.ensures);
   within = omega (arith, digits_u8 c.number.result (omega arith));
 }

@@ -8,11 +8,11 @@ use Rattle.host.proofs.text.+put_number.Goals.{Joined-n-lt10, then-n-lt10, else-
 front_written : (t : ℕ) (c : Joined-n-lt10 t) → Wrote c.args.row.now c.if-n-lt10.row c.args.at c.if-n-lt10.last (front c.args.n)
 front_written t c = elim c.if-n-lt10.branch [
   | then-n-lt10 w ↦ rw (w.row-is, w.last-is, front_one c.args.n w.if-n-lt10.true) (wrote_none c.args.row.now c.args.at)
-  | else-n-lt10 w ↦ rw (w.row-is, w.last-is, front_more c.args.n w.if-n-lt10.false) w.put-number-last.ensures
+  | else-n-lt10 w ↦ rw (w.row-is, w.last-is, front_more c.args.n w.if-n-lt10.false) w.put_number-last.ensures
 ]
 
-pub put-number-last-requires : goal.put-number-last-requires
-put-number-last-requires t c =
+pub put_number-last-requires : goal.put_number-last-requires
+put_number-last-requires t c =
     let n = c.args.n in
     let f = front_more n (omega arith) in
     (omega arith, omega (arith, rw f at (length_decimal n (omega arith))))
@@ -20,8 +20,8 @@ put-number-last-requires t c =
 pub bounds-row-last : goal.bounds-row-last
 bounds-row-last t c = omega (arith, (front_written t c).extent, length_decimal c.args.n (omega arith))
 
-pub overflow-add-result : goal.overflow-add-result
-overflow-add-result t c = omega (arith, (front_written t (goal.at.overflow-add-result t c).Joined-n-lt10).extent, length_decimal c.args.n (omega arith))
+pub overflow_add-result : goal.overflow_add-result
+overflow_add-result t c = omega (arith, (front_written t (goal.at.overflow_add-result t c).Joined-n-lt10).extent, length_decimal c.args.n (omega arith))
 
 pub returns : goal.returns
 returns t c =

@@ -6,11 +6,11 @@ use Rattle.sources.specs.Checks.{entry_checks}
 use Rattle.sources.proofs.Firsts.{none_fails_more, first_failing_below}
 use Rattle.sources.proofs.entries.check_entries.Goals as goal
 
-pub returns-in-err-require : goal.returns-in-err-require
-returns-in-err-require c =
+pub returns-in_err-require : goal.returns-in_err-require
+returns-in_err-require c =
     let bs = c.args.bytes.now in
-    let p = err_from_is_err_and c.from-residual.result c.from-residual.ensures.1 in
-    let here : first_failing (entry_checks bs c.loop-number.number) ≡ Some c.in-err-require.field-0.0 = search rules in
+    let p = err_from_is_err_and c.from_residual.result c.from_residual.ensures.1 in
+    let here : first_failing (entry_checks bs c.loop-number.number) ≡ Some c.in_err-require.field-0.0 = search rules in
     rw (p.1, p.2) (first_failing_below (entry_checks bs) (entries_of bs) c.loop-number.number _ (omega arith) c.loop-number.invariant here)
 
 pub loop-number-preserved : goal.loop-number-preserved

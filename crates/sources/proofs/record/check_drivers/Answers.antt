@@ -6,12 +6,12 @@ use Rattle.sources.specs.Checks.{driver_check}
 use Rattle.sources.proofs.Firsts.{none_fails_more, first_failing_below}
 use Rattle.sources.proofs.record.check_drivers.Goals as goal
 
-pub returns-in-err-check-driver : goal.returns-in-err-check-driver
-returns-in-err-check-driver c =
-    let p = err_from_is_err_and c.from-residual.result c.from-residual.ensures.1 in
+pub returns-in_err-check_driver : goal.returns-in_err-check_driver
+returns-in_err-check_driver c =
+    let p = err_from_is_err_and c.from_residual.result c.from_residual.ensures.1 in
     rw (p.1, p.2)
     (first_failing_below (λ k. driver_check c.args.bytes.now c.args.m k ∷ []) most_drivers c.loop-position.position _
-    (omega arith) c.loop-position.invariant c.in-err-check-driver.ensures)
+    (omega arith) c.loop-position.invariant c.in_err-check_driver.ensures)
 
 pub loop-position-preserved : goal.loop-position-preserved
 loop-position-preserved c =

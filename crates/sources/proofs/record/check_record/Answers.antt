@@ -4,8 +4,8 @@ use Rattle.sources.specs.First.{first_failing}
 use Rattle.sources.proofs.RecordParts.{before_drivers, driver_fails}
 use Rattle.sources.proofs.record.check_record.Goals as goal
 
-pub returns-in-err-check-drivers : goal.returns-in-err-check-drivers
-returns-in-err-check-drivers c =
-    let p = err_from_is_err_and c.from-residual-in-err-check-drivers.result c.from-residual-in-err-check-drivers.ensures.1 in
+pub returns-in_err-check_drivers : goal.returns-in_err-check_drivers
+returns-in_err-check_drivers c =
+    let p = err_from_is_err_and c.from_residual-in_err-check_drivers.result c.from_residual-in_err-check_drivers.ensures.1 in
     let before : first_failing (before_drivers c.args.bytes.now c.args.m) ≡ None = search rules in
-    rw (p.1, p.2) (driver_fails c.args.bytes.now c.args.m _ before c.in-err-check-drivers.ensures)
+    rw (p.1, p.2) (driver_fails c.args.bytes.now c.args.m _ before c.in_err-check_drivers.ensures)

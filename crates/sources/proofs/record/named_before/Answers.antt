@@ -4,5 +4,5 @@ use Rattle.sources.proofs.record.named_before.Goals as goal
 
 pub returns : goal.returns
 returns c =
-    named_before c.args.bytes.now c.args.m c.args.position c.record-place-first.result c.contains.result
-    c.record-place-first.ensures (omega arith) (omega arith) (omega arith) c.contains.ensures.cases
+    named_before c.args.bytes.now c.args.m c.args.position c.record_place-first.result c.contains.result
+    c.record_place-first.ensures (omega arith) (omega arith) (omega arith) c.contains.ensures.cases

@@ -13,24 +13,24 @@ pub loop-m-init : goal.loop-m-init
 unfolding earlier_lengths over
 loop-m-init c = (refl, refl)
 
-pub returns-in-err-check-record : goal.returns-in-err-check-record
-returns-in-err-check-record c =
-    let p = err_from_is_err_and c.from-residual.result c.from-residual.ensures.1 in
+pub returns-in_err-check_record : goal.returns-in_err-check_record
+returns-in_err-check_record c =
+    let p = err_from_is_err_and c.from_residual.result c.from_residual.ensures.1 in
     rw (p.1, p.2)
     (first_failing_below (record_checks c.args.bytes.now) c.args.measures c.loop-m.m _
-    (omega arith) c.loop-m.invariant.0 c.in-err-check-record.ensures)
+    (omega arith) c.loop-m.invariant.0 c.in_err-check_record.ensures)
 
-pub table-length-earlier-requires : goal.table-length-earlier-requires
-table-length-earlier-requires c =
+pub table_length-earlier-requires : goal.table_length-earlier-requires
+table_length-earlier-requires c =
     let bs = c.args.bytes.now in
-    let here = none_fails_more (record_checks bs) c.loop-m.m c.loop-m.invariant.0 c.in-ok-check-record.ensures in
+    let here = none_fails_more (record_checks bs) c.loop-m.m c.loop-m.invariant.0 c.in_ok-check_record.ensures in
     (omega arith, (omega arith, records_passed bs (c.loop-m.m + 1) here))
 
-pub overflow-add-earlier : goal.overflow-add-earlier
-overflow-add-earlier c =
+pub overflow_add-earlier : goal.overflow_add-earlier
+overflow_add-earlier c =
     let bs = c.args.bytes.now in
     let m = c.loop-m.m in
-    let here = none_fails_more (record_checks bs) m c.loop-m.invariant.0 c.in-ok-check-record.ensures in
+    let here = none_fails_more (record_checks bs) m c.loop-m.invariant.0 c.in_ok-check_record.ensures in
     let before = earlier_lengths_bounded bs m (records_passed bs m c.loop-m.invariant.0) in
     let own = length_bounded bs m (records_passed bs (m + 1) here) in
     omega (arith, before, own)

@@ -11,10 +11,10 @@ classes_at bs m place at = let same : place + 0 ≡ record_at m = omega arith in
 pub loop-position-init : goal.loop-position-init
 loop-position-init c = omega (arith, classes_at c.args.bytes.now c.args.m c.record_place-record.result c.record_place-record.ensures)
 
-pub overflow-mul-length : goal.overflow-mul-length
-overflow-mul-length c =
-    let read = get_or c.args.bytes.now (c.record-place.result + 0) 0 in
-    let small : read < 256 = (c.type-inv.bytes (c.record-place.result + 0)).fits in
+pub overflow_mul-length : goal.overflow_mul-length
+overflow_mul-length c =
+    let read = get_or c.args.bytes.now (c.record_place.result + 0) 0 in
+    let small : read < 256 = (c.type_inv.bytes (c.record_place.result + 0)).fits in
     let bound = table_step_small c.args.bytes.now c.args.m c.loop-position.position c.loop-position.length c.requires.1.1 c.loop-position.invariant read small in
     omega (arith, bound)
 

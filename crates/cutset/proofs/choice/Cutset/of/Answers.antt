@@ -23,7 +23,7 @@ loop-m-preserved g c =
     elim c.if-contains.branch [
       | then-contains w ↦
           recounted p H (m + 1) w.members-is w.count-is (w.weight-is ∙ ap (λ x. c.loop-m.weight + x) w.weight.ensures)
-          (w.settings-is ∙ w.times-capped-settings.ensures ∙ ap (λ x. capped (c.loop-m.settings * x)) w.classes.ensures)
+          (w.settings-is ∙ w.times_capped-settings.ensures ∙ ap (λ x. capped (c.loop-m.settings * x)) w.classes.ensures)
           (counted_yes p H m c.loop-m.members c.loop-m.count c.loop-m.weight c.loop-m.settings c.loop-m.invariant law
           (omega (arith, c.count-m-end.ensures, law.few_measures)) (sym c.contains.ensures ∙ w.if-contains.true))
       | else-contains w ↦
@@ -32,8 +32,8 @@ loop-m-preserved g c =
           (sym c.contains.ensures ∙ w.if-contains.false))
     ]
 
-pub invariant-of-result : goal.invariant-of-result
-invariant-of-result g c = (
+pub invariant_of-result : goal.invariant_of-result
+invariant_of-result g c = (
   c.loop-m.invariant.full,
   (
     omega (arith, c.loop-m.invariant.few, c.count-m-end.ensures, (g.S.Source.lawful c.args.source.now).few_measures),

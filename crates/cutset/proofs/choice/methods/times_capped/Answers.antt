@@ -4,8 +4,8 @@ use Rattle.std.proofs.lemmas.Bool.{cases_lt}
 use Rattle.cutset.proofs.Choices.{capped_small, capped_large}
 use Rattle.cutset.proofs.choice.methods.times_capped.Goals as goal
 
-pub overflow-mul-settings : goal.overflow-mul-settings
-overflow-mul-settings c = omega (arith, mul-le c.args.settings c.args.classes 65537 255 c.requires (omega arith))
+pub overflow_mul-settings : goal.overflow_mul-settings
+overflow_mul-settings c = omega (arith, mul-le c.args.settings c.args.classes 65537 255 c.requires (omega arith))
 
 pub returns : goal.returns
 returns c =

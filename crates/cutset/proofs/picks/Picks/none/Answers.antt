@@ -5,6 +5,6 @@ use Rattle.cutset.specs.Unused.{no_pick}
 use Rattle.cutset.specs.declared.pick.Pick.{Pick}
 use Rattle.cutset.proofs.picks.Picks.none.Goals as goal
 
-pub invariant-of-result : goal.invariant-of-result
-invariant-of-result c =
+pub invariant_of-result : goal.invariant_of-result
+invariant_of-result c =
     (refl, (omega arith, ((λ i. omega (arith, ap (λ (q : Pick). q.measure) (same_row most_measures no_pick i))), tt)))

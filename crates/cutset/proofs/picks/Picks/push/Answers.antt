@@ -5,8 +5,8 @@ use Rattle.cutset.specs.Unused.{no_pick}
 use Rattle.cutset.specs.declared.pick.Pick.{Pick}
 use Rattle.cutset.proofs.picks.Picks.push.Goals as goal
 
-pub invariant-of-self : goal.invariant-of-self
-invariant-of-self c =
+pub invariant_of-self : goal.invariant_of-self
+invariant_of-self c =
     let self = c.args.self.now in
     let lt : self.count < length self.list = omega (arith, c.requires.0) in (
       length-set self.list self.count c.args.pick ∙ self.full,

@@ -10,18 +10,18 @@ use Rattle.cutset.specs.declared.pick.Pick.{Pick}
 use Rattle.cutset.proofs.picks.Picks.set.Goals as goal
 
 pub loop-pick-init : goal.loop-pick-init
-loop-pick-init c = (c.as-slice-pick-items.ensures, c.empty-set.ensures)
+loop-pick-init c = (c.as_slice-pick-items.ensures, c.empty-set.ensures)
 
 pub loop-pick-preserved : goal.loop-pick-preserved
 loop-pick-preserved c =
-    let ps : List Pick = c.as-slice-pick-items.result.now in
+    let ps : List Pick = c.as_slice-pick-items.result.now in
     let i = c.loop-pick.pick-index in
     let x = (get_or ps i no_pick).measure in
     let C : Set = marked c.loop-pick.set.marks in
     let self = c.args.self.now in
-    let short : length ps ≡ self.count = ap length c.as-slice-pick-items.ensures ∙ length-take-le self.count self.list (omega arith) in
+    let short : length ps ≡ self.count = ap length c.as_slice-pick-items.ensures ∙ length-take-le self.count self.list (omega arith) in
     let same : x ≡ (get_or self.list i no_pick).measure =
-    ap (λ (qs : List Pick). (get_or qs i no_pick).measure) c.as-slice-pick-items.ensures
+    ap (λ (qs : List Pick). (get_or qs i no_pick).measure) c.as_slice-pick-items.ensures
     ∙ ap (λ (q : Pick). q.measure) (get_or-take self.count self.list i no_pick (omega arith)) in
     let small : x < 128 = omega (arith, same, self.known i) in (
       c.loop-pick.invariant.0,
@@ -34,6 +34,6 @@ loop-pick-preserved c =
 
 pub returns : goal.returns
 returns c =
-    let ps : List Pick = c.as-slice-pick-items.result.now in
+    let ps : List Pick = c.as_slice-pick-items.result.now in
     c.loop-pick.invariant.1
-    ∙ ap (λ (qs : List Pick). among (measures qs)) (take_all c.loop-pick.pick-index ps (omega arith) ∙ c.as-slice-pick-items.ensures)
+    ∙ ap (λ (qs : List Pick). among (measures qs)) (take_all c.loop-pick.pick-index ps (omega arith) ∙ c.as_slice-pick-items.ensures)

@@ -5,7 +5,7 @@ use Rattle.graph.specs.Marks.{marked, linked}
 use Rattle.plan.proofs.Sums.{on-zero}
 use Rattle.graph.proofs.Degrees.{deg_more, deg_none_yet}
 use Rattle.graph.proofs.split.SplitGraph.degree.Goals as goal
-use Rattle.graph.proofs.split.SplitGraph.degree.Goals.{then-contains+then-has-edge, else-contains, else-contains-via-then-contains+else-has-edge, else-contains-via-else-contains}
+use Rattle.graph.proofs.split.SplitGraph.degree.Goals.{then-contains+then-has_edge, else-contains, else-contains-via-then-contains+else-has_edge, else-contains-via-else-contains}
 
 pub loop-x-init : goal.loop-x-init
 loop-x-init c = (sym (deg_none_yet (linked c.args.self.now.rows) (marked c.args.within.now.marks) c.args.node), omega arith)
@@ -18,16 +18,16 @@ loop-x-preserved c =
     let v = c.args.node in
     let more = deg_more x adj X v in
     elim c.if-contains.branch [
-      | then-contains+then-has-edge w ↦
+      | then-contains+then-has_edge w ↦
           let p : X x ≡ true = sym c.contains.ensures ∙ w.if-contains.true in
-          let q : adj v x ≡ true = sym w.has-edge.ensures ∙ w.if-has-edge.true in
+          let q : adj v x ≡ true = sym w.has_edge.ensures ∙ w.if-has_edge.true in
           let e : on (X x) (on (adj v x) 1) ≡ 1 = ap (λ b. on b (on (adj v x) 1)) p ∙ ap (λ b. on b 1) q in
           (omega (arith, w.edges-is, more, e, c.loop-x.invariant.0), omega (arith, w.edges-is, c.loop-x.invariant.1))
       | else-contains w ↦
           let e : on (X x) (on (adj v x) 1) ≡ 0 =
           elim w.else-contains.branch [
-            | else-contains-via-then-contains+else-has-edge w' ↦
-                let q : adj v x ≡ false = sym w'.has-edge.ensures ∙ w'.if-has-edge.false in
+            | else-contains-via-then-contains+else-has_edge w' ↦
+                let q : adj v x ≡ false = sym w'.has_edge.ensures ∙ w'.if-has_edge.false in
                 ap (λ b. on (X x) (on b 1)) q ∙ on-zero (X x)
             | else-contains-via-else-contains w' ↦
                 let p : X x ≡ false = sym c.contains.ensures ∙ w'.if-contains.false in

@@ -6,7 +6,7 @@ use Rattle.graph.specs.Marks.{linked}
 use Rattle.graph.specs.Split.{joined, linked_to}
 use Rattle.graph.proofs.SplitNodes.{linked_to_none, linked_to_more}
 use Rattle.graph.proofs.split.SplitGraph.link_table.Goals as goal
-use Rattle.graph.proofs.split.SplitGraph.link_table.Goals.{in-Some, in-default}
+use Rattle.graph.proofs.split.SplitGraph.link_table.Goals.{in-Some, in_default}
 
 pub loop-position-init : goal.loop-position-init
 loop-position-init g c = (refl, linked_to_none (linked c.args.self.now.rows) (c.args.self.now.count + c.args.table))
@@ -43,7 +43,7 @@ loop-position-preserved g c =
                 ∙ ap (λ x. linked_to A t (take i ds ++ (x ∷ []))) same
                 ∙ ap (linked_to A t) (sym (take_more ds i 0 lt)),
           )
-      | in-default w ↦ absurd (w.in-default.not-Some (get_or ds i 0) (c.driver.ensures ∙ found))
+      | in_default w ↦ absurd (w.in_default.not-Some (get_or ds i 0) (c.driver.ensures ∙ found))
     ]
 
 pub link-requires-2 : goal.link-requires-2

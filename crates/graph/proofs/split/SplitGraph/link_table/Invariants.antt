@@ -7,4 +7,4 @@ abbrev pub invariant-loop-position : goal.invariant-loop-position
 invariant-loop-position g l =
     (l.self.count ≡ l.initial.self.count)
     × (linked l.self.rows
-    ≡ linked_to (linked l.initial.self.rows) l.table-node (take l.position ((g.S.Source.plan l.source).drivers l.table)))
+    ≡ linked_to (linked l.initial.self.rows) l.table_node (take l.position ((g.S.Source.plan l.source).drivers l.table)))

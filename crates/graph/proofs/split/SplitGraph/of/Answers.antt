@@ -17,8 +17,8 @@ loop-table-init g c =
       λ a b. ap (λ (adj : Adj). adj a b) c.edgeless-graph.ensures.edges ∙ sym (split_below_none p (g.S.Source.lawful c.args.source.now) a b),
     )
 
-pub link-table-requires : goal.link-table-requires
-link-table-requires g c = (c.loop-table.invariant.0, omega (arith, c.loop-table.invariant.0, c.count-count.ensures))
+pub link_table-requires : goal.link_table-requires
+link_table-requires g c = (c.loop-table.invariant.0, omega (arith, c.loop-table.invariant.0, c.count-count.ensures))
 
 pub loop-table-preserved : goal.loop-table-preserved
 loop-table-preserved g c =
@@ -27,9 +27,9 @@ loop-table-preserved g c =
     let t = c.loop-table.table in
     let lt : t < p.count = omega (arith, c.count-count.ensures) in
     let so_far : linked c.loop-table.graph.rows ≡ split_below p t = fun_ext (λ a. fun_ext (λ b. c.loop-table.invariant.1 a b)) in (
-      c.link-table.ensures.count ∙ c.loop-table.invariant.0,
+      c.link_table.ensures.count ∙ c.loop-table.invariant.0,
       λ a b.
-          ap (λ (adj : Adj). adj a b) c.link-table.ensures.edges
+          ap (λ (adj : Adj). adj a b) c.link_table.ensures.edges
           ∙ ap (λ (adj : Adj). linked_to adj (c.loop-table.graph.count + t) (scope p t) a b) so_far
           ∙ ap (λ k. linked_to (split_below p t) (k + t) (scope p t) a b) c.loop-table.invariant.0
           ∙ split_below_more p law t lt a b,

@@ -6,30 +6,30 @@ use Rattle.sources.proofs.CardParts.{header_fails, record_fails, total_fails, en
 use Rattle.sources.proofs.Firsts.{none_fails_first, some_fails_first}
 use Rattle.sources.proofs.card.Card.check.Goals as goal
 
-pub returns-in-err-header : goal.returns-in-err-header
-returns-in-err-header c =
+pub returns-in_err-header : goal.returns-in_err-header
+returns-in_err-header c =
     let bs = c.args.bytes.now in
-    let p = err_from_is_err_and c.from-residual.result c.from-residual.ensures.1 in
-    let told = header_fails bs _ c.in-err-header.ensures in
+    let p = err_from_is_err_and c.from_residual.result c.from_residual.ensures.1 in
+    let told = header_fails bs _ c.in_err-header.ensures in
     rw (p.1, p.2) record { told = told; first = some_fails_first (card_checks bs) _ told }
 
-pub returns-in-err-total : goal.returns-in-err-total
-returns-in-err-total c =
+pub returns-in_err-total : goal.returns-in_err-total
+returns-in_err-total c =
     let bs = c.args.bytes.now in
-    let header = c.in-ok-header.ensures in
-    let p = err_from_is_err_and c.from-residual-in-err-total.result c.from-residual-in-err-total.ensures.1 in
-    let fails = ap (λ n. first_failing (each_below n (record_checks bs))) (sym header.measures_read) ∙ c.in-err-total.ensures in
+    let header = c.in_ok-header.ensures in
+    let p = err_from_is_err_and c.from_residual-in_err-total.result c.from_residual-in_err-total.ensures.1 in
+    let fails = ap (λ n. first_failing (each_below n (record_checks bs))) (sym header.measures_read) ∙ c.in_err-total.ensures in
     let told = record_fails bs header.none_fails _ fails in
     rw (p.1, p.2) record { told = told; first = some_fails_first (card_checks bs) _ told }
 
-pub returns-in-err-require : goal.returns-in-err-require
-returns-in-err-require c =
+pub returns-in_err-require : goal.returns-in_err-require
+returns-in_err-require c =
     let bs = c.args.bytes.now in
-    let header = c.in-ok-header.ensures in
-    let records = c.in-ok-total.ensures in
-    let p = err_from_is_err_and c.from-residual-in-err-require.result c.from-residual-in-err-require.ensures.1 in
+    let header = c.in_ok-header.ensures in
+    let records = c.in_ok-total.ensures in
+    let p = err_from_is_err_and c.from_residual-in_err-require.result c.from_residual-in_err-require.ensures.1 in
     let none = ap (λ n. first_failing (each_below n (record_checks bs))) (sym header.measures_read) ∙ records.0 in
-    let fails : first_failing (total_checks bs) ≡ Some c.in-err-require.field-0.0 = search rules in
+    let fails : first_failing (total_checks bs) ≡ Some c.in_err-require.field-0.0 = search rules in
     let told = total_fails bs header.none_fails none _ fails in
     rw (p.1, p.2) record { told = told; first = some_fails_first (card_checks bs) _ told }
 

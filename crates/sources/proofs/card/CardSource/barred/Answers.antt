@@ -3,8 +3,8 @@ use Rattle.sources.specs.CardLawful.{card_lawful}
 use Rattle.sources.proofs.Opened.{inside}
 use Rattle.sources.proofs.card.CardSource.barred.Goals as goal
 
-pub bounds-self-record-place : goal.bounds-self-record-place
-bounds-self-record-place c = let known = inside c.args.self.now.bytes.now c.args.m (omega arith) in omega (arith, known.within)
+pub bounds-self-record_place : goal.bounds-self-record_place
+bounds-self-record_place c = let known = inside c.args.self.now.bytes.now c.args.m (omega arith) in omega (arith, known.within)
 
 pub returns-then-m-self : goal.returns-then-m-self
 returns-then-m-self c =

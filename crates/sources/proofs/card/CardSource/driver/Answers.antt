@@ -4,8 +4,8 @@ use Rattle.sources.specs.Card.{card_plan}
 use Rattle.sources.proofs.Opened.{inside, driven_inside, driver_read}
 use Rattle.sources.proofs.card.CardSource.driver.Goals as goal
 
-pub bounds-self-record-place : goal.bounds-self-record-place
-bounds-self-record-place c =
+pub bounds-self-record_place : goal.bounds-self-record_place
+bounds-self-record_place c =
     let bs = c.args.self.now.bytes.now in
     let used : c.args.position < length ((card_plan bs).drivers c.args.m) = omega (arith, c.drivers.ensures) in
     let known = inside bs c.args.m (driven_inside bs c.args.self.now.octets c.args.m c.args.position used) in

@@ -6,43 +6,43 @@ use Rattle.sources.proofs.Opened.{inside, outside_entry, entry_within}
 use Rattle.sources.proofs.card.CardSource.entry.Goals as goal
 use Rattle.sources.proofs.card.CardSource.entry.Goals.{else-m-self-via-then-m-self+else-place-table_length, else-m-self-via-else-m-self}
 
-pub table-length-requires : goal.table-length-requires
-table-length-requires c =
+pub table_length-requires : goal.table_length-requires
+table_length-requires c =
     let known = inside c.args.self.now.bytes.now c.args.m (omega arith) in
     (known.within, (omega (arith, known.passed.header.few_measures, known.below), λ k h. known.passed.records k (omega (arith, known.below))))
 
-pub read-u32-start-requires : goal.read-u32-start-requires
-read-u32-start-requires c = let known = inside c.args.self.now.bytes.now c.args.m (omega arith) in omega (arith, known.within)
+pub read_u32-start-requires : goal.read_u32-start-requires
+read_u32-start-requires c = let known = inside c.args.self.now.bytes.now c.args.m (omega arith) in omega (arith, known.within)
 
-pub overflow-add-start : goal.overflow-add-start
-overflow-add-start c =
+pub overflow_add-start : goal.overflow_add-start
+overflow_add-start c =
     let bs = c.args.self.now.bytes.now in
     let m = c.args.m in
     let known = inside bs m (omega arith) in
-    let start : c.read-u32-start.result ≡ start_of bs m = c.read-u32-start.ensures ∙ ap (λ place. le32 bs (place + 12)) c.record-place.ensures in
-    let below : c.args.place < length_of bs m = omega (arith, c.if-place-table-length.true, c.table_length.ensures) in
+    let start : c.read_u32-start.result ≡ start_of bs m = c.read_u32-start.ensures ∙ ap (λ place. le32 bs (place + 12)) c.record_place.ensures in
+    let below : c.args.place < length_of bs m = omega (arith, c.if-place-table_length.true, c.table_length.ensures) in
     omega (arith, start, entry_within bs m c.args.place known below, known.passed.header.few_entries)
 
-pub read-u32-requires : goal.read-u32-requires
-read-u32-requires c =
+pub read_u32-requires : goal.read_u32-requires
+read_u32-requires c =
     let bs = c.args.self.now.bytes.now in
     let m = c.args.m in
     let known = inside bs m (omega arith) in
-    let start : c.read-u32-start.result ≡ start_of bs m = c.read-u32-start.ensures ∙ ap (λ place. le32 bs (place + 12)) c.record-place.ensures in
-    let below : c.args.place < length_of bs m = omega (arith, c.if-place-table-length.true, c.table_length.ensures) in
-    omega (arith, start, entry_within bs m c.args.place known below, known.count, known.passed.header.as_long, c.entry-place.ensures)
+    let start : c.read_u32-start.result ≡ start_of bs m = c.read_u32-start.ensures ∙ ap (λ place. le32 bs (place + 12)) c.record_place.ensures in
+    let below : c.args.place < length_of bs m = omega (arith, c.if-place-table_length.true, c.table_length.ensures) in
+    omega (arith, start, entry_within bs m c.args.place known below, known.count, known.passed.header.as_long, c.entry_place.ensures)
 
-pub returns-then-place-table-length : goal.returns-then-place-table-length
-returns-then-place-table-length c =
+pub returns-then-place-table_length : goal.returns-then-place-table_length
+returns-then-place-table_length c =
     let bs = c.args.self.now.bytes.now in
     let m = c.args.m in
     let place = c.args.place in
     let known = inside bs m (omega arith) in
-    let start : c.read-u32-start.result ≡ start_of bs m = c.read-u32-start.ensures ∙ ap (λ p. le32 bs (p + 12)) c.record-place.ensures in
-    let below : place < length_of bs m = omega (arith, c.if-place-table-length.true, c.table_length.ensures) in
-    let at : c.entry-place.result ≡ record_at (measures_of bs) + entry_length * (start_of bs m + place) =
-    omega (arith, c.entry-place.ensures, known.count, start) in
-    c.read-u32.ensures
+    let start : c.read_u32-start.result ≡ start_of bs m = c.read_u32-start.ensures ∙ ap (λ p. le32 bs (p + 12)) c.record_place.ensures in
+    let below : place < length_of bs m = omega (arith, c.if-place-table_length.true, c.table_length.ensures) in
+    let at : c.entry_place.result ≡ record_at (measures_of bs) + entry_length * (start_of bs m + place) =
+    omega (arith, c.entry_place.ensures, known.count, start) in
+    c.read_u32.ensures
     ∙ ap (λ p. le32 bs p) at
     ∙ sym (ap (λ t. cond t (entry_of bs (start_of bs m + place)) never) (lt-ltb place (length_of bs m) below))
     ∙ known.entry place

@@ -4,8 +4,8 @@ use Rattle.sources.specs.Layout.{le16}
 use Rattle.sources.proofs.Opened.{inside}
 use Rattle.sources.proofs.card.CardSource.weight.Goals as goal
 
-pub read-u16-requires : goal.read-u16-requires
-read-u16-requires c = let known = inside c.args.self.now.bytes.now c.args.m (omega arith) in omega (arith, known.within)
+pub read_u16-requires : goal.read_u16-requires
+read_u16-requires c = let known = inside c.args.self.now.bytes.now c.args.m (omega arith) in omega (arith, known.within)
 
 pub returns-then-m-self : goal.returns-then-m-self
 returns-then-m-self c =
