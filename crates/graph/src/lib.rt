@@ -1,5 +1,6 @@
 //! The split graph of a plan, and pruning.
 #![tactic(auto)]
+
 mod set;
 mod split;
 
