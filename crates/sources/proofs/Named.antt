@@ -9,7 +9,7 @@ use Rattle.plan.specs.Sums.{among}
 use Rattle.sources.specs.Layout.{record_length, record_at, driver_count_of, driver_byte, drivers_of}
 use Rattle.sources.specs.LayoutLaws.{length_drivers, get_or_drivers}
 
-pub contains_among : (xs : List ℕ) (x : ℕ) (r : Bool) → IsAnyAnswer (λ y t. Decides t (y ≡ x)) xs r → r ≡ among xs x
+pub contains_among : (xs : List ℕ) (x : ℕ) (r : Bool) → IsAnyAnswer (λ y t. eqb y x ≡ t) xs r → r ≡ among xs x
 contains_among xs x r h =
     same_from_decides r (among xs x)
     (contains_decides eqb Decides-eqb xs x r h)
@@ -28,7 +28,7 @@ earlier_driver_bytes bs m k used few within =
     ∙ sym (get_or-take k (drivers_of bs m) i 0 below))
 
 -- whether the earlier driver bytes contain the one at position k, where the record begins at `first`
-pub named_before : (bs : List ℕ) (m k first : ℕ) (r : Bool) → first ≡ record_at m → k < driver_count_of bs m → k < most_drivers → record_at m + record_length ≤ length bs → IsAnyAnswer (λ y t. Decides t (y ≡ get_or bs (first + 4 + k) 0)) (take (first + 4 + k - (first + 4)) (drop (first + 4) bs)) r → r ≡ among (take k (drivers_of bs m)) (driver_byte bs m k)
+pub named_before : (bs : List ℕ) (m k first : ℕ) (r : Bool) → first ≡ record_at m → k < driver_count_of bs m → k < most_drivers → record_at m + record_length ≤ length bs → IsAnyAnswer (λ y t. eqb y (get_or bs (first + 4 + k) 0) ≡ t) (take (first + 4 + k - (first + 4)) (drop (first + 4) bs)) r → r ≡ among (take k (drivers_of bs m)) (driver_byte bs m k)
 named_before bs m k first r at used few within h =
     let size : first + 4 + k - (first + 4) ≡ k = omega arith in
     let part : take (first + 4 + k - (first + 4)) (drop (first + 4) bs) ≡ take k (drivers_of bs m) =

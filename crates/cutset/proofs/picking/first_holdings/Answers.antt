@@ -38,17 +38,14 @@ loop-m-preserved g c =
 pub invariant_of-result : goal.invariant_of-result
 invariant_of-result g c =
     let p : Plan = g.S.Source.plan c.args.source.now in
-    let law : Lawful p = g.S.Source.lawful c.args.source.now in (
-      c.loop-m.invariant.0,
-      (
-        (λ v. omega (
-          arith,
-          c.loop-m.invariant.1 v,
-          cond_both (ltb v c.loop-m.m) (first_holding p v) 0 (λ x. x ≤ 16776960) (λ e. first_holding_bounded p law v) (λ e. omega arith),
-        )),
-        tt,
-      ),
-    )
+    let law : Lawful p = g.S.Source.lawful c.args.source.now in record {
+      full = c.loop-m.invariant.0;
+      bounded = λ v. omega (
+        arith,
+        c.loop-m.invariant.1 v,
+        cond_both (ltb v c.loop-m.m) (first_holding p v) 0 (λ x. x ≤ 16776960) (λ e. first_holding_bounded p law v) (λ e. omega arith),
+      );
+    }
 
 pub returns : goal.returns
 returns g c =

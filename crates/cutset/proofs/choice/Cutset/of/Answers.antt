@@ -33,13 +33,10 @@ loop-m-preserved g c =
     ]
 
 pub invariant_of-result : goal.invariant_of-result
-invariant_of-result g c = (
-  c.loop-m.invariant.full,
-  (
-    omega (arith, c.loop-m.invariant.few, c.count-m-end.ensures, (g.S.Source.lawful c.args.source.now).few_measures),
-    tt,
-  ),
-)
+invariant_of-result g c = record {
+  full = c.loop-m.invariant.full;
+  few = omega (arith, c.loop-m.invariant.few, c.count-m-end.ensures, (g.S.Source.lawful c.args.source.now).few_measures);
+}
 
 pub returns : goal.returns
 returns g c =

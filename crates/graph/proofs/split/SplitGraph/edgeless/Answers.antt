@@ -5,7 +5,11 @@ use Rattle.graph.proofs.Marks.{linked_none}
 use Rattle.graph.proofs.split.SplitGraph.edgeless.Goals as goal
 
 pub invariant_of-result : goal.invariant_of-result
-invariant_of-result c = (c.requires, (refl, ((λ x h. ap length (get_or-replicate 128 x (replicate 128 false) [] h)), tt)))
+invariant_of-result c = record {
+  few = c.requires;
+  tall = refl;
+  wide = λ x h. ap length (get_or-replicate 128 x (replicate 128 false) [] h);
+}
 
 pub returns : goal.returns
 returns c = record { count = refl; edges = fun_ext (λ a. fun_ext (λ b. linked_none 128 a b)) }

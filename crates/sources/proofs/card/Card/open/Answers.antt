@@ -19,4 +19,4 @@ invariant_of-result c =
       | in-Ok w ↦ w.count-is ∙ w.read_u16.ensures ∙ sym (ap (λ p. p.count) (card_plan_accepted bs w.in-Ok.ensures.told))
       | in-Err w ↦ w.count-is ∙ sym (ap (λ p. p.count) (card_plan_refused bs _ w.in-Err.ensures.told))
     ] in
-    (opened, ((λ k. (c.type_inv.bytes k).fits), tt))
+    record { opened = opened; octets = λ k. (c.type_inv.bytes k).fits }
