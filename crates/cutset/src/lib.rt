@@ -1,5 +1,6 @@
 //! The choice of a held set: the two-stage method over any source and any set of taken measures.
 #![tactic(auto)]
+
 mod choice;
 mod choose;
 mod fault;
