@@ -1,5 +1,6 @@
 //! The fitting panel.
 #![tactic(auto)]
+
 mod refusal;
 
 pub use refusal::Refusal;

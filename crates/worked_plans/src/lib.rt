@@ -1,5 +1,6 @@
 //! Worked plans: what the method gives on small plans that can be followed by hand.
 #![tactic(auto)]
+
 ghost use Rattle.std.specs.Prelude.{◌≡◌, length};
 ghost use Rattle.worked_plans.specs.Worked.{worked, WorkedPlansStand};
 
