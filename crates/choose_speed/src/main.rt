@@ -1,5 +1,6 @@
 //! How long a choice takes: chooses again and again for the card on standard input, and tells the mean time on standard error.
 #![tactic(auto)]
+
 use cutset::choose_cutset;
 use graph::NumberSet;
 use plan::Source;

@@ -1,5 +1,6 @@
 //! Tests of the card: damaged cards, each refused with its number and place, and cards that are accepted and answer every question.
 #![tactic(auto)]
+
 #[cfg(test)]
 mod accepted;
 #[cfg(test)]

@@ -1,5 +1,6 @@
 //! Reads a card from standard input, and writes its listing to standard output.
 #![tactic(auto)]
+
 use host::{ROW_LENGTH, write_listing};
 use sources::READ_LIMIT;
 use std::io;

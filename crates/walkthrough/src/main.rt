@@ -1,5 +1,6 @@
 //! Follows one plan from its card to its listing, and says in plain words what was done at each step.
 #![tactic(auto)]
+
 mod cycles;
 mod names;
 
