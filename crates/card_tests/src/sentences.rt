@@ -42,7 +42,7 @@ const FAULTS: [(CardFault, &str); 8] = [
 #[test]
 fn a_fault_is_told(rt: HostRuntime) -> Result<(), Fail> {
     for (fault, sentence) in &FAULTS {
-        assert_eq!(rt; format!(in rt.alloc(); "{fault}")?, *sentence);
+        assert_eq!(rt; format!(in rt.alloc(); "{fault}")?.as_str(), *sentence);
     }
     Ok(())
 }
@@ -70,7 +70,7 @@ const REFUSALS: [(Refusal, &str); 4] = [
 #[test]
 fn a_refusal_is_told(rt: HostRuntime) -> Result<(), Fail> {
     for (refusal, sentence) in &REFUSALS {
-        assert_eq!(rt; format!(in rt.alloc(); "{refusal}")?, *sentence);
+        assert_eq!(rt; format!(in rt.alloc(); "{refusal}")?.as_str(), *sentence);
     }
     Ok(())
 }
