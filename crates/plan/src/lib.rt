@@ -1,5 +1,6 @@
 //! What a plan of measures is, its limits, and the interface that a plan is read through.
 #![tactic(auto)]
+
 mod limits;
 mod source;
 
