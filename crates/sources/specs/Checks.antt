@@ -32,6 +32,31 @@ driver_check bs m k =
     (check (nat_lt d m && not (among (take k (drivers_of bs m)) d)) (DriverByte place))
     (check (d == no_driver_byte) (RecordByte place))
 
+-- the three driver bytes, in rising place
+abbrev pub driver_checks : List ℕ → ℕ → List (Check CardFault)
+driver_checks bs m = each_below most_drivers (λ k. driver_check bs m k ∷ [])
+
+-- the bytes of a record before its driver bytes
+abbrev pub front_checks : List ℕ → ℕ → List (Check CardFault)
+front_checks bs m =
+    let place : ℕ = record_at m in
+    check (nat_le 1 (classes_of bs m) && nat_le (classes_of bs m) most_classes) (RecordByte place)
+    ∷ check (nat_le (byte bs (place + 1)) 1) (RecordByte (place + 1))
+    ∷ check (nat_le (driver_count_of bs m) most_drivers) (RecordByte (place + 2))
+    ∷ zero_check bs (place + 3)
+    ∷ []
+
+-- the bytes of a record after its driver bytes
+abbrev pub back_checks : List ℕ → ℕ → List (Check CardFault)
+back_checks bs m =
+    let place : ℕ = record_at m in
+    zero_check bs (place + 7)
+    ∷ zero_check bs (place + 10)
+    ∷ zero_check bs (place + 11)
+    ∷ check (start_of bs m == earlier_lengths bs m) (TableStart (place + 12))
+    ∷ []
+
+-- a record, byte by byte in rising place
 abbrev pub record_checks : List ℕ → ℕ → List (Check CardFault)
 record_checks bs m =
     let place : ℕ = record_at m in

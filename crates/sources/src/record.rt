@@ -4,7 +4,7 @@ ghost use Rattle.plan.specs.Limits.{most_measures, most_classes, most_drivers};
 ghost use Rattle.plan.specs.Sums.{among};
 ghost use Rattle.sources.specs.First.{first_failing, each_below};
 ghost use Rattle.sources.specs.Layout.{record_length, record_at, byte, driver_count_of, driver_byte, drivers_of, earlier_lengths};
-ghost use Rattle.sources.specs.Checks.{driver_check, record_checks};
+ghost use Rattle.sources.specs.Checks.{driver_check, front_checks, back_checks, record_checks};
 ghost use Rattle.sources.specs.declared.fault.CardFault.TheVariants.{RecordByte};
 
 use crate::fault::{CardFault, require};
@@ -82,17 +82,27 @@ fn check_zero(bytes: &[u8], place: usize) -> Result<(), CardFault>
     require(bytes[place] == 0, CardFault::RecordByte { place })
 }
 
-/// Checks the record of `m`, byte by byte; `earlier` is how many entries the tables before its own have.
-pub(crate) fn check_record(bytes: &[u8], m: u8, earlier: u32) -> Result<(), CardFault>
-    requires { (record_at m + record_length ≤ length bytes.now) × ((m < most_measures) × (earlier ≡ earlier_lengths bytes.now m)) }
-    ensures { MatchResult result (λ _. first_failing (record_checks bytes.now m) ≡ None) (λ e. first_failing (record_checks bytes.now m) ≡ Some e) }
+/// Checks the bytes of the record of `m` before its driver bytes.
+fn check_front(bytes: &[u8], m: u8) -> Result<(), CardFault>
+    requires within { record_at m + record_length ≤ length bytes.now }
+    requires measure { m < most_measures }
+    ensures { MatchResult result (λ _. first_failing (front_checks bytes.now m) ≡ None) (λ e. first_failing (front_checks bytes.now m) ≡ Some e) }
 {
     let record = record_place(m);
     check_classes(bytes, record + CLASSES)?;
     check_at_most(bytes, record + BARRED, IS_BARRED)?;
     check_at_most(bytes, record + DRIVER_COUNT, MOST_DRIVERS)?;
-    check_zero(bytes, record + ZERO_BEFORE_DRIVERS)?;
-    check_drivers(bytes, m)?;
+    check_zero(bytes, record + ZERO_BEFORE_DRIVERS)
+}
+
+/// Checks the bytes of the record of `m` after its driver bytes; `earlier` is how many entries the tables before its own have.
+fn check_back(bytes: &[u8], m: u8, earlier: u32) -> Result<(), CardFault>
+    requires within { record_at m + record_length ≤ length bytes.now }
+    requires measure { m < most_measures }
+    requires counted { earlier ≡ earlier_lengths bytes.now m }
+    ensures { MatchResult result (λ _. first_failing (back_checks bytes.now m) ≡ None) (λ e. first_failing (back_checks bytes.now m) ≡ Some e) }
+{
+    let record = record_place(m);
     check_zero(bytes, record + ZERO_AFTER_DRIVERS)?;
     check_zero(bytes, record + ZERO_AFTER_WEIGHT)?;
     check_zero(bytes, record + ZERO_BEFORE_START)?;
@@ -101,4 +111,14 @@ pub(crate) fn check_record(bytes: &[u8], m: u8, earlier: u32) -> Result<(), Card
         read_u32(bytes, place) == earlier,
         CardFault::TableStart { place },
     )
+}
+
+/// Checks the record of `m`, byte by byte; `earlier` is how many entries the tables before its own have.
+pub(crate) fn check_record(bytes: &[u8], m: u8, earlier: u32) -> Result<(), CardFault>
+    requires { (record_at m + record_length ≤ length bytes.now) × ((m < most_measures) × (earlier ≡ earlier_lengths bytes.now m)) }
+    ensures { MatchResult result (λ _. first_failing (record_checks bytes.now m) ≡ None) (λ e. first_failing (record_checks bytes.now m) ≡ Some e) }
+{
+    check_front(bytes, m)?;
+    check_drivers(bytes, m)?;
+    check_back(bytes, m, earlier)
 }
