@@ -1,7 +1,7 @@
 #!/usr/bin/env python3
 """Compares the listing program with an independent reading of docs/RULES.md on many random cards, whole and damaged.
 
-Build first (`rt check listing`), then: scripts/compare_listing.py [CARDS] [SEED]. It prints counts, and stops at the first difference.
+Build first (`rt run` in crates/listing), then: scripts/compare_listing.py [CARDS] [SEED]. It prints counts, and stops at the first difference.
 """
 
 import collections
@@ -13,7 +13,7 @@ import sys
 
 import make_cards
 
-PROGRAM = pathlib.Path(__file__).resolve().parent.parent / "target/bin/listing"
+PROGRAM = pathlib.Path(__file__).resolve().parent.parent / "crates/listing/out/listing"
 NEVER = 0xFFFFFFFF
 LONGEST = 50192
 
