@@ -1,5 +1,5 @@
 -- The value nodes that may be picked, and what they hold at first.
-use Rattle.std.proofs.Common.{◌≡◌, ℕ, ◌+◌, ◌*◌, ◌<◌, ◌≤◌, Bool, true, false, cond, not, ◌&&◌, ltb, sym, refl, ap, ◌∙◌, inl, inr, arith}
+use Rattle.std.proofs.Common.{◌≡◌, ℕ, ◌*◌, ◌<◌, ◌≤◌, true, false, cond, not, ◌&&◌, ltb, ap, inl, inr, arith}
 use Rattle.std.proofs.lemmas.Bool.{cases_Bool, and_parts, cond_both, lt-ltb, ltb-true}
 use Rattle.plan.specs.Limits.{most_weight}
 use Rattle.plan.specs.Plan.{Plan, Lawful}

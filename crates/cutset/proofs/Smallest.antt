@@ -1,6 +1,6 @@
 -- The search for the smallest share.
-use Rattle.std.proofs.Common.{◌≡◌, ℕ, zero, suc, ◌+◌, ◌/◌, ◌<◌, ◌≤◌, Bool, true, false, cond, ◌&&◌, ltb, leb, Some, None, Option, sym, refl, ap, ◌∙◌, subst, inl, inr, div-le_self, add-one, arith}
-use Rattle.std.proofs.lemmas.Bool.{cases_lt, cases_Bool, and_parts, cond_both, lt-ltb, le-ltb, le-leb, lt-leb}
+use Rattle.std.proofs.Common.{◌≡◌, ℕ, zero, suc, ◌+◌, ◌/◌, ◌<◌, ◌≤◌, true, false, cond, ◌&&◌, ltb, Some, None, Option, sym, refl, ap, ◌∙◌, subst, inl, inr, div-le_self, add-one, arith}
+use Rattle.std.proofs.lemmas.Bool.{cases_lt, and_parts, cond_both, lt-ltb, le-ltb, le-leb, lt-leb}
 use Rattle.plan.specs.Sums.{Set, meet}
 use Rattle.graph.specs.Graphs.{Adj, deg}
 use Rattle.cutset.specs.Stages.{share, better, smallest, next_pick}

@@ -1,5 +1,5 @@
 -- Leaving picks out, one by one from the last.
-use Rattle.std.proofs.Common.{◌≡◌, ℕ, ◌+◌, ◌<◌, Bool, true, false, cond, List, [], ◌∷◌, ◌++◌, map, reverse, length, get_or, take, sym, refl, ap, ◌∙◌}
+use Rattle.std.proofs.Common.{◌≡◌, ℕ, ◌+◌, ◌<◌, true, false, cond, List, [], ◌∷◌, reverse, length, get_or, take, refl, ap, ◌∙◌}
 use Rattle.std.proofs.lemmas.List.{map_more, reverse-append}
 use Rattle.plan.specs.Plan.{Plan}
 use Rattle.plan.specs.Sums.{Set, union, without}

@@ -1,5 +1,5 @@
 -- One stage of the choosing, on any graph: C are the nodes present, h says what each holds, and `free` are the nodes that may be picked.
-use Rattle.std.specs.Prelude.{ℕ, zero, suc, ◌+◌, ◌-◌, ◌*◌, ◌/◌, Bool, cond, ◌&&◌, List, [], ◌∷◌, Some, None, Ok, Err, Option, Result, ◌==◌, nat_lt}
+use Rattle.std.specs.Prelude.{ℕ, zero, suc, ◌-◌, ◌*◌, ◌/◌, Bool, cond, ◌&&◌, List, [], ◌∷◌, Some, None, Ok, Err, Option, Result, ◌==◌, nat_lt}
 use Rattle.plan.specs.Sums.{Set, size, meet, without}
 use Rattle.graph.specs.Graphs.{Adj, deg}
 use Rattle.graph.specs.Pruning.{prune}

@@ -1,5 +1,5 @@
 -- Degrees are sums: how they grow with the set.
-use Rattle.std.proofs.Common.{◌≡◌, ℕ, ◌+◌, ◌<◌, ◌≤◌, refl, arith}
+use Rattle.std.proofs.Common.{◌≡◌, ℕ, ◌+◌, ◌≤◌, refl, arith}
 use Rattle.plan.specs.Sums.{Set, on, over, size, Within}
 use Rattle.plan.proofs.Sums.{Parts, on_one, over_more, over_none_yet, over_mono, over_parts, size-le}
 use Rattle.graph.specs.Graphs.{Adj, deg}

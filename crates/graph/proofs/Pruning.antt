@@ -1,12 +1,12 @@
 -- Pruning leaves the core, and there is one core only.
-use Rattle.std.proofs.Common.{◌≡◌, ℕ, zero, suc, ◌+◌, ◌<◌, ◌≤◌, Bool, true, false, cond, not, ◌&&◌, ◌||◌, eqb, leb, ◌⊎◌, sym, refl, ap, ◌∙◌, subst, inl, inr, arith, below_more}
-use mathlib.Core.Path.{fun_ext}
-use Rattle.std.proofs.lemmas.Bool.{cases_lt, cases_Bool, cases_eq, and_left, and_parts, and_from, or_cases, or_left, or_right, eqb-true, eqb-false, leb-true, le-leb, cond_both, both_ways, ne_eqb, eq-eqb}
+use Rattle.std.proofs.Common.{◌≡◌, ℕ, zero, suc, ◌+◌, ◌<◌, ◌≤◌, Bool, true, false, not, ◌&&◌, ◌||◌, eqb, leb, sym, refl, ap, ◌∙◌, inl, inr, arith, below_more}
+use Rattle.std.proofs.Math.Path.{fun_ext}
+use Rattle.std.proofs.lemmas.Bool.{cases_lt, cases_Bool, and_parts, and_from, or_cases, or_left, or_right, eqb-true, eqb-false, leb-true, le-leb, cond_both, both_ways, ne_eqb, eq-eqb}
 use Rattle.plan.specs.Sums.{Set, size, minus, single, without, Within}
 use Rattle.plan.proofs.Sums.{size_member, size_mono, size-le}
 use Rattle.plan.proofs.Sets.{size_same, size_less, same_test, minus_in, minus_from}
 use Rattle.graph.specs.Graphs.{Adj, deg, TwoEdged, Core}
-use Rattle.graph.specs.Pruning.{sweep, rounds, prune, forest, Shrinks, Swept, Pruned}
+use Rattle.graph.specs.Pruning.{sweep, rounds, prune, Shrinks, Swept, Pruned}
 use Rattle.graph.proofs.Degrees.{deg_mono}
 
 module _ (n : ℕ) (adj : Adj) where

@@ -1,5 +1,5 @@
 -- How the tables of the code are read as sets and graphs.
-use Rattle.std.specs.Prelude.{ℕ, Bool, false, List, [], slice_index_or}
+use Rattle.std.specs.Prelude.{Bool, false, List, [], slice_index_or}
 use Rattle.plan.specs.Sums.{Set}
 use Rattle.graph.specs.Graphs.{Adj}
 

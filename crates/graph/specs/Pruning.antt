@@ -1,6 +1,6 @@
 -- Pruning: to remove, as long as there is one, a node with at most one edge. It is defined here by rounds, so that it computes; what it
--- leaves is the core whatever the order of removal (proofs/Pruning.antt: prune-core, core-unique), and proofs use that alone.
-use Rattle.std.specs.Prelude.{◌≡◌, ℕ, zero, suc, ◌+◌, ◌<◌, ◌≤◌, Bool, true, cond, ◌&&◌, ◌||◌, ◌==◌, nat_le}
+-- leaves is the core whatever the order of removal (proofs/Pruning.antt: prune_core, core_unique), and proofs use that alone.
+use Rattle.std.specs.Prelude.{◌≡◌, ℕ, zero, suc, ◌<◌, ◌≤◌, Bool, cond, ◌&&◌, ◌||◌, ◌==◌, nat_le}
 use Rattle.plan.specs.Sums.{Set, size, Within}
 use Rattle.graph.specs.Graphs.{Adj, deg, TwoEdged, Core}
 

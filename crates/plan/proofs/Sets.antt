@@ -1,9 +1,9 @@
 -- Membership in sets that are made of others, and how a set falls into parts.
-use Rattle.std.proofs.Common.{◌≡◌, ℕ, suc, ◌+◌, ◌<◌, ◌≤◌, Bool, true, false, not, ◌&&◌, ◌||◌, eqb, ltb, ◌⊎◌, List, [], ◌∷◌, ◌++◌, length, get_or, sym, refl, ap, ◌∙◌, inl, inr, arith}
-use mathlib.Core.Path.{fun_ext}
-use Rattle.std.proofs.lemmas.Bool.{cases_lt, cases_Bool, lt-ltb, le-ltb, both_ways, or_cases, and_parts, and_from, and_left, and_right, not-true, not_from_false, eqb-true, eq-eqb, ne_eqb}
-use Rattle.plan.specs.Sums.{Set, on, size, among, minus, meet, with, single, without, Within}
-use Rattle.plan.proofs.Sums.{Parts, size_parts, size_member, size-single}
+use Rattle.std.proofs.Common.{◌≡◌, ℕ, suc, ◌+◌, ◌<◌, Bool, true, false, not, ◌&&◌, ◌||◌, eqb, ltb, ◌⊎◌, List, [], ◌∷◌, ◌++◌, length, get_or, sym, refl, ap, ◌∙◌, inl, inr, arith}
+use Rattle.std.proofs.Math.Path.{fun_ext}
+use Rattle.std.proofs.lemmas.Bool.{cases_lt, cases_Bool, lt-ltb, le-ltb, both_ways, or_cases, and_parts, and_from, and_left, and_right, not-true, not_from_false, eqb-true}
+use Rattle.plan.specs.Sums.{Set, on, size, among, minus, meet, with, Within}
+use Rattle.plan.proofs.Sums.{Parts, size_parts, size_member}
 
 -- tests joined with a known one
 pub or-true : (b : Bool) → (b || true) ≡ true

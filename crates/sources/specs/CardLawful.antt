@@ -1,9 +1,9 @@
 -- The plan of a card is lawful, whatever its bytes; that each of them is below 256 bounds the weights. A card owes this as a source, by a
 -- ghost member, and that can cite only what stands in specs; so this theorem and the laws that it takes are here and not among the proofs.
-use Rattle.std.specs.Prelude.{◌≡◌, ℕ, zero, suc, ◌+◌, ◌<◌, ◌≤◌, Bool, true, false, cond, ◌||◌, ltb, ◌≢◌, List, [], ◌∷◌, ◌++◌, map, length, take, Some, None, Option, ◌==◌, nat_lt, slice_index, slice_index_or, refl}
+use Rattle.std.specs.Prelude.{◌≡◌, ℕ, zero, suc, ◌+◌, ◌<◌, ◌≤◌, Bool, true, false, cond, ltb, ◌≢◌, List, [], ◌∷◌, ◌++◌, map, length, take, Some, None, Option, ◌==◌, nat_lt, slice_index, slice_index_or, refl}
 use Rattle.std.proofs.Common.{inr, sym, subst, ◌∙◌, arith, length-take, get_or-take, ltb-true, ltb-false, lt-ltb, le-ltb}
 use Rattle.std.proofs.Math.Path.{ap}
-use Rattle.std.proofs.lemmas.Bool.{or_parts, eqb-false, both_ways}
+use Rattle.std.proofs.lemmas.Bool.{or_parts, eqb-false}
 use Rattle.plan.specs.Limits.{most_classes, most_drivers, most_weight, never}
 use Rattle.plan.specs.Plan.{Lawful, Entry, table_length, no_measures}
 use Rattle.plan.specs.Sums.{among, product}

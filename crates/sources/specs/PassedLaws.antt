@@ -2,7 +2,7 @@
 -- same reason as FirstLaws.
 use Rattle.std.specs.Prelude.{◌≡◌, ℕ, zero, suc, ◌+◌, ◌<◌, ◌≤◌, Bool, true, false, cond, not, ◌&&◌, ◌||◌, List, ◌++◌, take, None, ◌==◌, nat_le, nat_lt, refl}
 use Rattle.std.proofs.Common.{inl, inr, sym, ap, ◌∙◌, arith, lt-ltb, ltb-true, leb-true, eqb-true}
-use Rattle.std.proofs.lemmas.Bool.{and_parts, not-true, both_ways}
+use Rattle.std.proofs.lemmas.Bool.{and_parts, not-true}
 use Rattle.plan.specs.Limits.{most_classes, most_drivers, most_alteration, never}
 use Rattle.plan.specs.Plan.{Entry}
 use Rattle.plan.specs.Sums.{among}

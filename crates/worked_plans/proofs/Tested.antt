@@ -1,5 +1,5 @@
 -- One test of a whole table, by computing, and what it says of each row.
-use Rattle.std.proofs.Common.{◌≡◌, ℕ, Bool, true, false, ◌&&◌, eqb, List, [], ◌∷◌, map, Ok, Err, Result, refl, ap, ◌∙◌, ap₂}
+use Rattle.std.proofs.Common.{◌≡◌, Bool, true, false, ◌&&◌, eqb, List, [], ◌∷◌, map, Ok, Err, Result, refl, ap, ◌∙◌, ap₂}
 use Rattle.std.proofs.lemmas.Bool.{eqb-true, and_parts, both_ways}
 use Rattle.plan.specs.Sums.{over, size, times, rising, minus, meet, union, with, among}
 use Rattle.graph.specs.Graphs.{deg}

@@ -1,11 +1,11 @@
-use Rattle.std.proofs.Common.{◌≡◌, ℕ, ◌*◌, ◌<◌, ◌≤◌, true, false, cond, not, ltb, List, length, replicate, sym, refl, ap, ◌∙◌, inl, inr, arith, length-set}
-use mathlib.Core.Path.{fun_ext}
+use Rattle.std.proofs.Common.{◌≡◌, ℕ, ◌*◌, ◌<◌, ◌≤◌, true, false, cond, not, ltb, List, length, sym, refl, ap, ◌∙◌, inl, inr, arith, length-set}
+use Rattle.std.proofs.Math.Path.{fun_ext}
 use Rattle.std.proofs.lemmas.Bool.{cases_lt, cond_both, lt-ltb, le-ltb}
 use Rattle.plan.specs.Plan.{Plan, Lawful}
 use Rattle.cutset.specs.Method.{unbarred, first_holding}
 use Rattle.cutset.specs.Tables.{holds}
 use Rattle.cutset.proofs.Tables.{tabled_write, tabled_keep, tabled_none}
-use Rattle.cutset.proofs.PlanNodes.{unbarred_within, unbarred_below, first_holding_free, first_holding_barred, first_holding_past, first_holding_bounded}
+use Rattle.cutset.proofs.PlanNodes.{unbarred_within, first_holding_free, first_holding_barred, first_holding_past, first_holding_bounded}
 use Rattle.cutset.proofs.picking.first_holdings.Goals as goal
 use Rattle.cutset.proofs.picking.first_holdings.Goals.{then-not-barred, else-not-barred}
 

@@ -1,17 +1,16 @@
-use Rattle.std.proofs.Common.{◌≡◌, ℕ, ◌+◌, ◌<◌, ◌≤◌, Bool, true, false, eqb, List, [], ◌∷◌, ◌++◌, length, Some, None, Err, sym, refl, ap, ◌∙◌, subst, arith}
+use Rattle.std.proofs.Common.{◌≡◌, ℕ, ◌+◌, ◌≤◌, true, eqb, List, [], ◌∷◌, ◌++◌, length, Err, sym, ap, ◌∙◌, subst, arith}
 use Rattle.std.proofs.lemmas.List.{length-take-le}
 use Rattle.std.proofs.lemmas.Result.{err_from_is_err_and}
 use Rattle.std.proofs.lemmas.Bool.{eqb-true}
 use Rattle.plan.specs.Plan.{Plan}
-use Rattle.plan.specs.Sums.{Set, size, meet, without}
+use Rattle.plan.specs.Sums.{Set, size, meet}
 use Rattle.plan.proofs.Sets.{meet_in, meet_from}
 use Rattle.plan.proofs.Sums.{size_below, size_member}
 use Rattle.graph.specs.Graphs.{Adj}
 use Rattle.graph.specs.Marks.{marked, linked}
 use Rattle.graph.specs.Pruning.{prune}
-use Rattle.graph.specs.Split.{remaining}
 use Rattle.cutset.specs.Stages.{share, short, taken_off}
-use Rattle.cutset.specs.Method.{picks, unbarred}
+use Rattle.cutset.specs.Method.{picks}
 use Rattle.cutset.specs.Tables.{holds, picked}
 use Rattle.cutset.specs.declared.pick.Pick.{Pick}
 use Rattle.cutset.specs.declared.fault.ChoiceFault.{ChoiceFault}

@@ -1,4 +1,4 @@
-use Rattle.std.proofs.Common.{ℕ, ◌+◌}
+use Rattle.std.proofs.Common.{◌+◌}
 use Rattle.plan.specs.Sums.{size}
 use Rattle.graph.specs.Marks.{marked, linked}
 use Rattle.cutset.specs.Method.{picks}

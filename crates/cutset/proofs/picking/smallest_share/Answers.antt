@@ -1,7 +1,7 @@
-use Rattle.std.proofs.Common.{◌≡◌, ℕ, ◌+◌, ◌/◌, ◌<◌, ◌≤◌, Bool, true, false, sym, refl, ap, ◌∙◌, inl, inr, arith}
+use Rattle.std.proofs.Common.{◌≡◌, ℕ, ◌+◌, ◌/◌, true, false, sym, ap, ◌∙◌, inl, inr, arith}
 use Rattle.plan.specs.Sums.{Set, meet}
 use Rattle.plan.proofs.Sets.{meet_from, meet-not}
-use Rattle.graph.specs.Graphs.{Adj, deg}
+use Rattle.graph.specs.Graphs.{Adj}
 use Rattle.graph.specs.Marks.{marked, linked}
 use Rattle.graph.proofs.Degrees.{deg-le}
 use Rattle.cutset.specs.Stages.{share, smallest, next_pick}

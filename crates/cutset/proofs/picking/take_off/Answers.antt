@@ -1,11 +1,10 @@
-use Rattle.std.proofs.Common.{◌≡◌, ℕ, ◌+◌, ◌-◌, ◌*◌, ◌<◌, ◌≤◌, true, false, List, set, sym, refl, ap, ◌∙◌, subst, inl, inr, arith}
+use Rattle.std.proofs.Common.{◌≡◌, ℕ, ◌+◌, ◌-◌, ◌≤◌, true, false, List, set, sym, refl, ap, ◌∙◌, subst, inl, inr, arith}
 use Rattle.std.proofs.lemmas.Nat.{mul-le}
 use Rattle.plan.specs.Sums.{Set, meet}
 use Rattle.plan.proofs.Sets.{meet_from, meet-not}
-use Rattle.graph.specs.Graphs.{Adj, deg}
+use Rattle.graph.specs.Graphs.{Adj}
 use Rattle.graph.specs.Marks.{marked, linked}
 use Rattle.graph.proofs.Degrees.{deg-le, deg_mono}
-use Rattle.cutset.specs.Stages.{due}
 use Rattle.cutset.specs.Tables.{holds}
 use Rattle.cutset.proofs.Payments.{Paying, due_is, paying_none, paying_off, paying_skip, paying_short, paying_all}
 use Rattle.cutset.proofs.picking.take_off.Goals as goal

@@ -1,4 +1,4 @@
-use Rattle.std.proofs.Common.{ℕ, ◌+◌}
+use Rattle.std.proofs.Common.{◌+◌}
 use Rattle.graph.specs.Marks.{marked, linked}
 use Rattle.cutset.specs.Tables.{holds}
 use Rattle.cutset.proofs.Payments.{Paying}

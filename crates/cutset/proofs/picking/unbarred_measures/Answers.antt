@@ -1,5 +1,5 @@
-use Rattle.std.proofs.Common.{◌≡◌, ℕ, ◌<◌, true, false, not, ◌&&◌, ltb, sym, ap, ◌∙◌, arith}
-use Rattle.std.proofs.lemmas.Bool.{cond-true, lt-ltb, ltb-true, and_parts}
+use Rattle.std.proofs.Common.{◌<◌, not, sym, ap, ◌∙◌, arith}
+use Rattle.std.proofs.lemmas.Bool.{cond-true, lt-ltb}
 use Rattle.plan.specs.Plan.{Plan}
 use Rattle.plan.specs.Sums.{Set, with}
 use Rattle.graph.specs.Marks.{marked}

@@ -1,6 +1,6 @@
 use Rattle.std.proofs.Common.{arith}
 use Rattle.host.proofs.Lengths.{digits_u64}
-use Rattle.host.proofs.Writes.{wrote_none, wrote_both}
+use Rattle.host.proofs.Writes.{wrote_both}
 use Rattle.host.proofs.listing.put_place.Goals as goal
 
 pub put_number-requires : goal.put_number-requires

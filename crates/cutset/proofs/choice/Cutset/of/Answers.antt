@@ -1,9 +1,9 @@
-use Rattle.std.proofs.Common.{◌≡◌, ℕ, ◌+◌, ◌*◌, ◌<◌, ◌≤◌, true, false, List, set, sym, refl, ap, ◌∙◌, subst, arith}
+use Rattle.std.proofs.Common.{◌≡◌, ℕ, ◌+◌, ◌*◌, sym, refl, ap, ◌∙◌, subst, arith}
 use Rattle.plan.specs.Plan.{Plan, Lawful}
 use Rattle.plan.specs.Sums.{Set}
 use Rattle.graph.specs.Marks.{marked}
 use Rattle.cutset.specs.Method.{capped}
-use Rattle.cutset.proofs.Choices.{Counted, capped_le, counted_none, counted_yes, counted_no, counted_all, recounted}
+use Rattle.cutset.proofs.Choices.{Counted, counted_none, counted_yes, counted_no, counted_all, recounted}
 use Rattle.cutset.proofs.choice.Cutset.of.Goals as goal
 use Rattle.cutset.proofs.choice.Cutset.of.Goals.{then-contains, else-contains}
 

@@ -1,7 +1,4 @@
-use Rattle.std.proofs.Common.{◌≡◌, ℕ, ◌+◌, ◌*◌, ◌≤◌, length, take}
-use Rattle.plan.specs.Sums.{over, times, rising}
 use Rattle.graph.specs.Marks.{marked}
-use Rattle.cutset.specs.Method.{capped}
 use Rattle.cutset.proofs.Choices.{Counted}
 use Rattle.cutset.proofs.choice.Cutset.of.Given as goal
 

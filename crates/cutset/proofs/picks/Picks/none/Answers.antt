@@ -1,4 +1,4 @@
-use Rattle.std.proofs.Common.{◌≡◌, sym, refl, ap, arith}
+use Rattle.std.proofs.Common.{refl, ap, arith}
 use Rattle.plan.specs.Limits.{most_measures}
 use Rattle.plan.proofs.Rows.{same_row}
 use Rattle.cutset.specs.Unused.{no_pick}

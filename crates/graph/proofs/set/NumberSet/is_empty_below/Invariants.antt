@@ -1,4 +1,4 @@
-use Rattle.std.proofs.Common.{◌≡◌, ℕ, ◌<◌}
+use Rattle.std.proofs.Common.{◌≡◌}
 use Rattle.plan.specs.Sums.{size}
 use Rattle.graph.specs.Marks.{marked}
 use Rattle.graph.proofs.set.NumberSet.is_empty_below.Given as goal

@@ -1,4 +1,4 @@
-use Rattle.std.proofs.Common.{◌≡◌, ℕ, ◌+◌, ◌≤◌, true, false, sym, refl, ap, ◌∙◌, subst, arith}
+use Rattle.std.proofs.Common.{◌≡◌, ◌+◌, true, false, sym, ap, ◌∙◌, arith}
 use Rattle.plan.specs.Sums.{Set, on}
 use Rattle.graph.specs.Graphs.{Adj, deg}
 use Rattle.graph.specs.Marks.{marked, linked}

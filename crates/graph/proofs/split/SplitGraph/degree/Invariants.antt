@@ -1,4 +1,4 @@
-use Rattle.std.proofs.Common.{◌≡◌, ℕ, ◌≤◌}
+use Rattle.std.proofs.Common.{◌≡◌, ◌≤◌}
 use Rattle.graph.specs.Marks.{marked, linked}
 use Rattle.graph.specs.Graphs.{deg}
 use Rattle.graph.proofs.split.SplitGraph.degree.Given as goal

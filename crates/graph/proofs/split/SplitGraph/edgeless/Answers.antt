@@ -1,6 +1,6 @@
 use Rattle.std.proofs.Common.{false, [], length, replicate, refl, ap}
-use mathlib.Core.Path.{fun_ext}
-use lib.ListN.{get_or-replicate}
+use Rattle.std.proofs.Math.Path.{fun_ext}
+use Rattle.std.proofs.lemmas.List.{get_or-replicate}
 use Rattle.graph.proofs.Marks.{linked_none}
 use Rattle.graph.proofs.split.SplitGraph.edgeless.Goals as goal
 

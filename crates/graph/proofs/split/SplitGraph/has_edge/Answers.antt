@@ -1,5 +1,4 @@
-use Rattle.std.proofs.Common.{◌≡◌, false, sym, inl, inr, arith}
-use Rattle.graph.specs.Marks.{linked}
+use Rattle.std.proofs.Common.{sym, inl, inr, arith}
 use Rattle.graph.proofs.Marks.{linked_past_row, linked_past_column}
 use Rattle.graph.proofs.split.SplitGraph.has_edge.Goals as goal
 

@@ -1,4 +1,4 @@
-use Rattle.std.proofs.Common.{◌≡◌, ◌+◌, eqb, ap, ◌∙◌}
+use Rattle.std.proofs.Common.{◌+◌, eqb, ap, ◌∙◌}
 use Rattle.plan.specs.Sums.{size}
 use Rattle.graph.specs.Marks.{marked}
 use Rattle.graph.specs.Pruning.{forest}

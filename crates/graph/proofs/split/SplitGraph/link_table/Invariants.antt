@@ -1,4 +1,4 @@
-use Rattle.std.proofs.Common.{◌≡◌, ℕ, ◌+◌, take}
+use Rattle.std.proofs.Common.{◌≡◌, take}
 use Rattle.graph.specs.Marks.{linked}
 use Rattle.graph.specs.Split.{linked_to}
 use Rattle.graph.proofs.split.SplitGraph.link_table.Given as goal

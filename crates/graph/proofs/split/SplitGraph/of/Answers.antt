@@ -1,9 +1,9 @@
-use Rattle.std.proofs.Common.{◌≡◌, ℕ, ◌+◌, ◌<◌, sym, ap, ◌∙◌, arith}
-use mathlib.Core.Path.{fun_ext}
+use Rattle.std.proofs.Common.{◌≡◌, ◌+◌, ◌<◌, sym, ap, ◌∙◌, arith}
+use Rattle.std.proofs.Math.Path.{fun_ext}
 use Rattle.plan.specs.Plan.{Plan, Lawful, scope}
 use Rattle.graph.specs.Graphs.{Adj}
 use Rattle.graph.specs.Marks.{linked}
-use Rattle.graph.specs.Split.{split, linked_to}
+use Rattle.graph.specs.Split.{linked_to}
 use Rattle.graph.proofs.SplitNodes.{split_below, split_below_none, split_below_more, split_below-all}
 use Rattle.graph.proofs.split.SplitGraph.of.Goals as goal
 

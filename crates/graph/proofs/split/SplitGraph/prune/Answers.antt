@@ -1,4 +1,4 @@
-use Rattle.std.proofs.Common.{◌≡◌, ◌+◌, Bool, true, false, subst}
+use Rattle.std.proofs.Common.{◌+◌, Bool, subst}
 use Rattle.graph.specs.Marks.{marked, linked}
 use Rattle.graph.specs.Pruning.{Swept}
 use Rattle.graph.proofs.Pruning.{shrinks_none, shrinks_then, shrinks_core}

@@ -1,8 +1,5 @@
-use Rattle.std.proofs.Common.{◌≡◌, ℕ, ◌+◌, ◌<◌, ◌≤◌, true, cond}
-use Rattle.plan.specs.Sums.{size}
+use Rattle.std.proofs.Common.{◌+◌}
 use Rattle.graph.specs.Marks.{marked, linked}
-use Rattle.graph.specs.Graphs.{deg}
-use Rattle.graph.specs.Pruning.{Shrinks, sweep}
 use Rattle.graph.proofs.Pruning.{Sweeping}
 use Rattle.graph.proofs.split.SplitGraph.sweep.Given as goal
 

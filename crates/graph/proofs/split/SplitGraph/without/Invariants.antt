@@ -1,4 +1,4 @@
-use Rattle.std.proofs.Common.{◌≡◌, ℕ, ◌<◌, ◌&&◌, ltb}
+use Rattle.std.proofs.Common.{◌≡◌, ℕ, ◌&&◌, ltb}
 use Rattle.graph.specs.Marks.{marked}
 use Rattle.graph.specs.Split.{remaining}
 use Rattle.graph.proofs.split.SplitGraph.without.Given as goal
