@@ -5,7 +5,6 @@
 use crate::diamond::{LENGTH, diamond};
 use sources::Card;
 use std::alloc::Global;
-use std::process::Abort;
 use std::test::Fail;
 
 /// A change of a byte past every card here: it changes nothing.
@@ -88,7 +87,7 @@ const DAMAGES: [Damage; 62] = [
 ];
 
 /// Makes the damaged card, and checks how it is refused.
-fn is_refused(rt: &impl Abort, heap: Global, damage: &Damage) -> Result<(), Fail> {
+fn is_refused(heap: Global, damage: &Damage) -> Result<(), Fail> {
     let Damage(name, changes, length, number, place) = *damage;
     let mut card = diamond(heap)?;
     for (at, value) in changes {
@@ -103,8 +102,9 @@ fn is_refused(rt: &impl Abort, heap: Global, damage: &Damage) -> Result<(), Fail
     match Card::check(card.as_slice()) {
         Ok(()) => Err(Fail::new(name)),
         Err(fault) => {
-            assert_eq!(rt; fault.number(), number, "{}", name);
-            assert_eq!(rt; fault.place(), place, "{}", name);
+            if fault.number() != number || fault.place() != place {
+                return Err(Fail::new(name));
+            }
             Ok(())
         }
     }
@@ -113,7 +113,7 @@ fn is_refused(rt: &impl Abort, heap: Global, damage: &Damage) -> Result<(), Fail
 #[test]
 fn damaged_cards_are_refused(rt: HostRuntime) -> Result<(), Fail> {
     for damage in &DAMAGES {
-        is_refused(&rt, rt.alloc(), damage)?;
+        is_refused(rt.alloc(), damage)?;
     }
     Ok(())
 }

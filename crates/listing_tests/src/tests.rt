@@ -1,7 +1,6 @@
 //! A card and changed copies of it, with their listings.
 use host::{ROW_LENGTH, write_listing};
 use panel::Refusal;
-use std::process::Abort;
 use std::test::Fail;
 
 /// A card of four measures of two classes, none barred: 0 drives 1 and 2, and these drive 3. A line for the header, one for the record of
@@ -30,32 +29,34 @@ const BARRED_1: usize = 33;
 const BARRED_2: usize = 49;
 
 /// Checks that a card is listed by this text.
-fn check_listing(rt: &impl Abort, card: &[u8], text: &[u8]) -> Result<(), Fail> {
+fn check_listing(card: &[u8], text: &[u8]) -> Result<(), Fail> {
     let mut row = [0; ROW_LENGTH];
     let length = write_listing(card, &mut row)?;
-    assert_eq!(rt; &row[0..length], text);
+    if &row[0..length] != text {
+        return Err(Fail::new("another text is listed"));
+    }
     Ok(())
 }
 
 #[test]
-fn a_set_is_listed(rt: HostRuntime) -> Result<(), Fail> {
-    check_listing(&rt, DIAMOND, b"HELD 1 WEIGHT 3 SETTINGS 2\nMEASURE 1\n")
+fn a_set_is_listed() -> Result<(), Fail> {
+    check_listing(DIAMOND, b"HELD 1 WEIGHT 3 SETTINGS 2\nMEASURE 1\n")
 }
 
 #[test]
-fn a_fault_of_the_card_is_listed_with_its_place(rt: HostRuntime) -> Result<(), Fail> {
+fn a_fault_of_the_card_is_listed_with_its_place() -> Result<(), Fail> {
     let mut card = *DIAMOND;
     card[CLASSES_1] = 9;
-    check_listing(&rt, &card, b"REFUSED 4 AT 32\n")
+    check_listing(&card, b"REFUSED 4 AT 32\n")
 }
 
 #[test]
-fn a_barred_loop_is_listed_with_no_place(rt: HostRuntime) -> Result<(), Fail> {
+fn a_barred_loop_is_listed_with_no_place() -> Result<(), Fail> {
     let mut card = *DIAMOND;
     card[BARRED_0] = 1;
     card[BARRED_1] = 1;
     card[BARRED_2] = 1;
-    check_listing(&rt, &card, b"REFUSED 14\n")
+    check_listing(&card, b"REFUSED 14\n")
 }
 
 #[test]
