@@ -1,7 +1,7 @@
 //! What is picked and held for the plans of some cards. Shares, picks and sets are worked out by hand from the rules.
-use crate::cards::{BARRED_1, DIAMOND, EMPTY, barred_diamond};
+use crate::cards::{BARRED_1, DIAMOND, EMPTY, barred};
 use crate::full::chain;
-use cutset::{ChoiceFault, choose_cutset, pick_measures};
+use cutset::{ChoiceFault, Pick, choose_cutset, pick_measures};
 use graph::NumberSet;
 use plan::Source;
 use sources::Card;
@@ -15,34 +15,53 @@ fn only(m: usize) -> NumberSet {
     set
 }
 
-/// Checks the picks: measures and shares, in the order of picking.
-fn check_picks(card: &[u8], taken: &NumberSet, picks: &[(u8, u32)]) -> Result<(), Fail> {
+/// A pick.
+fn pick(measure: u8, share: u32) -> Pick {
+    Pick { measure, share }
+}
+
+/// Checks the picks, in the order of picking.
+fn check_picks(card: &[u8], taken: &NumberSet, expected: &[Pick]) -> Result<(), Fail> {
     let found = pick_measures(&Card::open(card), taken)?;
-    if found.as_slice().len() != picks.len() {
-        return Err(Fail::new("another number of picks"));
-    }
-    for (pick, expected) in found.as_slice().iter().zip(picks) {
-        if (pick.measure, pick.share) != *expected {
-            return Err(Fail::new("another pick or share"));
-        }
+    let picks = found.as_slice();
+    if picks != expected {
+        return Err(Fail::new(format_args!("the picks are {picks:?}")));
     }
     Ok(())
 }
 
-/// Checks the held set: its members, their weight and their settings.
-fn check_held(
-    card: &[u8],
-    taken: &NumberSet,
-    members: &[u8],
+/// What is told of a held set.
+#[derive(Clone, Copy, PartialEq, Debug)]
+struct Held<'a> {
+    members: &'a [u8],
     weight: u32,
     settings: u32,
-) -> Result<(), Fail> {
-    let held = choose_cutset(&Card::open(card), taken)?;
-    if held.members() != members {
-        return Err(Fail::new("another set is held"));
-    }
-    if held.weight() != weight || held.settings() != settings {
-        return Err(Fail::new("another weight or number of settings"));
+}
+
+/// What is told where nothing is held.
+const NOTHING: Held<'static> = Held {
+    members: &[],
+    weight: 0,
+    settings: 1,
+};
+
+/// What is told where measure 1 of the diamond is held.
+const MEASURE_1: Held<'static> = Held {
+    members: &[1],
+    weight: 3,
+    settings: 2,
+};
+
+/// Checks what is told of the held set.
+fn check_held(card: &[u8], taken: &NumberSet, expected: &Held) -> Result<(), Fail> {
+    let cutset = choose_cutset(&Card::open(card), taken)?;
+    let held = Held {
+        members: cutset.members(),
+        weight: cutset.weight(),
+        settings: cutset.settings(),
+    };
+    if held != *expected {
+        return Err(Fail::new(format_args!("what is told is {held:?}")));
     }
     Ok(())
 }
@@ -59,8 +78,8 @@ fn check_loop_barred(card: &[u8], taken: &NumberSet) -> Result<(), Fail> {
 #[test]
 fn a_loop_is_opened_at_the_smallest_share() -> Result<(), Fail> {
     let taken = NumberSet::empty();
-    check_picks(DIAMOND, &taken, &[(1, 384)])?;
-    check_held(DIAMOND, &taken, &[1], 3, 2)
+    check_picks(DIAMOND, &taken, &[pick(1, 384)])?;
+    check_held(DIAMOND, &taken, &MEASURE_1)
 }
 
 #[test]
@@ -68,33 +87,38 @@ fn a_barred_measure_is_not_picked() -> Result<(), Fail> {
     let taken = NumberSet::empty();
     let mut card = *DIAMOND;
     card[BARRED_1] = 1;
-    check_picks(&card, &taken, &[(2, 512)])?;
-    check_held(&card, &taken, &[2], 4, 2)
+    check_picks(&card, &taken, &[pick(2, 512)])?;
+    let held = Held {
+        members: &[2],
+        weight: 4,
+        settings: 2,
+    };
+    check_held(&card, &taken, &held)
 }
 
 #[test]
 fn a_loop_of_barred_openers_is_refused_until_one_is_taken() -> Result<(), Fail> {
-    let card = barred_diamond();
+    let card = barred(DIAMOND);
     check_loop_barred(&card, &NumberSet::empty())?;
     // 3 is driven by both its neighbours, so it opens nothing
     check_loop_barred(&card, &only(3))?;
-    check_held(&card, &only(1), &[], 0, 1)
+    check_held(&card, &only(1), &NOTHING)
 }
 
 #[test]
 fn a_number_that_is_no_measure_changes_nothing() -> Result<(), Fail> {
-    check_held(DIAMOND, &only(100), &[1], 3, 2)
+    check_held(DIAMOND, &only(100), &MEASURE_1)
 }
 
 #[test]
 fn nothing_is_held_of_no_measures() -> Result<(), Fail> {
     check_picks(EMPTY, &NumberSet::empty(), &[])?;
-    check_held(EMPTY, &NumberSet::empty(), &[], 0, 1)
+    check_held(EMPTY, &NumberSet::empty(), &NOTHING)
 }
 
 #[test]
 fn nothing_is_held_of_64_measures_in_a_row(rt: HostRuntime) -> Result<(), Fail> {
-    check_held(&chain(rt.alloc())?, &NumberSet::empty(), &[], 0, 1)
+    check_held(&chain(rt.alloc())?, &NumberSet::empty(), &NOTHING)
 }
 
 /// The header and the records of a card of seven measures of two classes, with weights 3, 1 and then 10: 0 drives 1 to 4, of which 1 and 2
@@ -111,10 +135,7 @@ const TWIN: &[u8; 128] = b"\
 
 /// Adds so many entries, each 0.
 fn add_entries(card: &mut Vec<u8>, entries: u32) -> Result<(), AllocError> {
-    for _ in 0..entries {
-        card.extend_from_slice(&[0; 4])?;
-    }
-    Ok(())
+    card.resize(card.len() + 4 * entries as usize, 0)
 }
 
 #[test]
@@ -124,8 +145,13 @@ fn a_pick_is_left_out_where_a_later_one_opens_its_loop_too(rt: HostRuntime) -> R
     card.extend_from_slice(TWIN)?;
     add_entries(&mut card, 34)?;
     // 0 has four edges and 768 to begin with; 1 is picked at 256 / 2, its loop is pruned and takes two edges of 0 along, each for 128
-    check_picks(&card, &taken, &[(1, 128), (0, 256)])?;
-    check_held(&card, &taken, &[0], 3, 2)
+    check_picks(&card, &taken, &[pick(1, 128), pick(0, 256)])?;
+    let held = Held {
+        members: &[0],
+        weight: 3,
+        settings: 2,
+    };
+    check_held(&card, &taken, &held)
 }
 
 /// A record of a measure that is not barred.
@@ -164,13 +190,12 @@ fn check_six(heap: Global, classes: u8, settings: u32) -> Result<(), Fail> {
     if Card::open(&card).count() != 24 {
         return Err(Fail::new("the card is refused"));
     }
-    check_held(
-        &card,
-        &NumberSet::empty(),
-        &[1, 5, 9, 13, 17, 21],
-        18,
+    let held = Held {
+        members: &[1, 5, 9, 13, 17, 21],
+        weight: 18,
         settings,
-    )
+    };
+    check_held(&card, &NumberSet::empty(), &held)
 }
 
 #[test]

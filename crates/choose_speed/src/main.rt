@@ -14,12 +14,12 @@ const ROUNDS: u32 = 200;
 fn main(rt: HostRuntime) -> anyhow::Result<()> {
     let mut card = Vec::new(rt.alloc());
     rt.stdin().take(READ_LIMIT).read_to_end(&mut card)?;
-    let source = Card::open(card.as_slice());
+    let source = Card::open(&card);
     let taken = NumberSet::empty();
     let measures = source.count();
     let start = Instant::now(&rt)?;
-    let mut held = 0usize;
-    let mut weight = 0u32;
+    let mut held = 0;
+    let mut weight = 0;
     for _ in 0..ROUNDS {
         if let Ok(cutset) = choose_cutset(&source, &taken) {
             held = cutset.members().len();

@@ -1,3 +1,4 @@
+pub mod Lists
 pub mod Unused
 pub mod Stages
 pub mod Method

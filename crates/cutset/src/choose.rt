@@ -11,6 +11,8 @@ use graph::NumberSet;
 use plan::Source;
 
 /// The held set for a source's plan where the measures of `taken` are taken, by the two-stage method; or why there is none.
+// Two parameters, here and in the two stages: a struct of both, made for one call, would be no plainer.
+#[tactic(auto, unfolding(crate::specs::Method::chosen))]
 pub fn choose_cutset<S: Source>(source: &S, taken: &NumberSet) -> Result<Cutset, ChoiceFault>
     ensures { Reads told result (chosen (S.Source.plan source.now) (set_of taken.now)) }
 {

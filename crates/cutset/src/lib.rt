@@ -4,10 +4,12 @@
 mod choice;
 mod choose;
 mod fault;
+mod fixed_list;
 mod holdings;
 mod pick;
 mod picking;
 mod picks;
+mod stage;
 mod thinning;
 
 pub use choice::{Cutset, MOST_SETTINGS};

@@ -1,19 +1,18 @@
 //! The picks, in their order.
-ghost use Rattle.std.specs.Prelude.{◌≡◌, ℕ, ◌<◌, ◌≤◌, length, slice_index_or};
+ghost use Rattle.std.specs.Prelude.{◌<◌};
+ghost use Rattle.std.specs.List.{All};
 ghost use Rattle.plan.specs.Limits.{most_measures};
-ghost use Rattle.cutset.specs.Unused.{no_pick};
+ghost use Rattle.cutset.specs.Lists.{listed};
 
 mod methods;
 
+use crate::fixed_list::FixedList;
 use crate::pick::Pick;
 use plan::MOST_MEASURES;
 
 /// The picks with their shares, in the order of picking.
 #[derive(Clone, Copy)]
 pub struct Picks {
-    list: [Pick; MOST_MEASURES],
-    count: usize,
-    ghost full: { length list ≡ most_measures },
-    ghost few: { count ≤ most_measures },
-    ghost known: { (i : ℕ) → (slice_index_or list i no_pick).measure < most_measures },
+    list: FixedList<Pick, MOST_MEASURES>,
+    ghost known: { All (λ pick. pick.measure < most_measures) (listed list) },
 }

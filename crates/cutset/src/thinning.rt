@@ -14,11 +14,10 @@ pub fn leave_out<S: Source>(source: &S, taken: &NumberSet, picks: &Picks) -> Num
     ensures { set_of result ≡ held (S.Source.plan source.now) (set_of taken.now) (picked picks.now) }
 {
     let graph = SplitGraph::of(source);
-    let list = picks.as_slice();
     let mut held = picks.set();
-    for i in (0..list.len()).rev() {
+    for pick in picks.as_slice().iter().rev() {
         let mut others = held;
-        others.remove(list[i].measure as usize);
+        others.remove(pick.measure as usize);
         if graph.is_forest(&graph.without(&taken.union(&others))) {
             held = others;
         }

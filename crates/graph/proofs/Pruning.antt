@@ -1,10 +1,11 @@
 -- Pruning leaves the core, and there is one core only.
-use Rattle.std.proofs.Common.{◌≡◌, ℕ, zero, suc, ◌+◌, ◌<◌, ◌≤◌, Bool, true, false, not, ◌&&◌, ◌||◌, eqb, leb, sym, refl, ap, ◌∙◌, inl, inr, arith, below_more}
+use Rattle.std.proofs.Common.{◌≡◌, ℕ, zero, suc, ◌+◌, ◌<◌, ◌≤◌, Bool, true, false, eqb, sym, refl, ap, ◌∙◌, inl, inr, arith, below_more}
 use Rattle.std.proofs.Math.Path.{fun_ext}
-use Rattle.std.proofs.lemmas.Bool.{cases_lt, cases_Bool, and_parts, and_from, or_cases, or_left, or_right, eqb-true, eqb-false, leb-true, le-leb, cond_both, both_ways, ne_eqb, eq-eqb}
+use Rattle.std.proofs.lemmas.Bool.{cases_lt, eqb-true, eqb-false, cond_both, both_ways, ne_eqb}
+use Rattle.std.proofs.lemmas.Bool.Decides.{nat_tests}
 use Rattle.plan.specs.Sums.{Set, size, minus, single, without, Within}
 use Rattle.plan.proofs.Sums.{size_member, size_mono, size-le}
-use Rattle.plan.proofs.Sets.{size_same, size_less, same_test, minus_in, minus_from}
+use Rattle.plan.proofs.Sets.{size_same, size_less, same_test, minus_from}
 use Rattle.graph.specs.Graphs.{Adj, deg, TwoEdged, Core}
 use Rattle.graph.specs.Pruning.{sweep, rounds, prune, Shrinks, Swept, Pruned}
 use Rattle.graph.proofs.Degrees.{deg_mono}
@@ -12,29 +13,19 @@ use Rattle.graph.proofs.Degrees.{deg_mono}
 module _ (n : ℕ) (adj : Adj) where
   sweep_in : (C : Set) → Within n (sweep n adj C) C
   unfolding sweep
-  sweep_in C x l e = (and_parts (C x) (leb n x || leb 2 (deg n adj C x)) e).0
+  sweep_in C x l e = grind (arith, nat_tests)
 
   sweep_two : (C : Set) (x : ℕ) → x < n → sweep n adj C x ≡ true → 2 ≤ deg n adj C x
   unfolding sweep
-  sweep_two C x l e =
-      elim (or_cases (leb n x) (leb 2 (deg n adj C x)) (and_parts (C x) (leb n x || leb 2 (deg n adj C x)) e).1) [
-        | inl far ↦ omega (arith, leb-true n x far)
-        | inr two ↦ leb-true 2 (deg n adj C x) two
-      ]
+  sweep_two C x l e = grind (arith, nat_tests)
 
   sweep_from : (C X : Set) → Within n X C → TwoEdged n adj X → Within n X (sweep n adj C)
   unfolding sweep
-  sweep_from C X s two x l e =
-      and_from (C x) (leb n x || leb 2 (deg n adj C x)) (s x l e)
-      (or_right (leb n x) (leb 2 (deg n adj C x)) (le-leb 2 (deg n adj C x) (omega (arith, two x l e, deg_mono n adj X C x s))))
+  sweep_from C X s two x l e = grind (arith, nat_tests, s x l e, two x l e, deg_mono n adj X C x s)
 
   sweep_beyond : (C : Set) (x : ℕ) → n ≤ x → sweep n adj C x ≡ C x
   unfolding sweep
-  sweep_beyond C x g = go (C x) (or_left (leb n x) (leb 2 (deg n adj C x)) (le-leb n x g))
-    where
-      go : (b : Bool) {c : Bool} → c ≡ true → (b && c) ≡ b
-      go true e = e
-      go false e = refl
+  sweep_beyond C x g = grind (arith, nat_tests)
 
   rounds_core : (k : ℕ) (C : Set) → size n C ≤ k → Core n adj C (rounds k n adj C)
   unfolding rounds
@@ -100,17 +91,13 @@ module _ (n : ℕ) (adj : Adj) where
   pub shrinks_one : (C : Set) (v : ℕ) → v < n → deg n adj C v ≤ 1 → Shrinks n adj C (without C v)
   unfolding minus
   shrinks_one C v lt low = record {
-    inside = λ x l e. (minus_in C (single v) x e).0;
-    keeps = λ X s two x l e. minus_from C (single v) x (s x l e) (ne_eqb x v (λ q. low_not X s two x l e q));
-    beyond = λ x g. go (C x) (ne_eqb x v (λ q. omega arith));
+    inside = λ x l e. grind (arith, nat_tests);
+    keeps = λ X s two x l e. minus_from C (single v) x (s x l e) (ne_eqb x v (low_not X s two x l e));
+    beyond = λ x g. grind (arith, nat_tests);
   }
     where
       low_not : (X : Set) → Within n X C → TwoEdged n adj X → (x : ℕ) → x < n → X x ≡ true → x ≡ v → ⊥
       low_not X s two x l e q = omega (arith, two x l e, deg_mono n adj X C x s, ap (deg n adj C) q)
-
-      go : (b : Bool) {c : Bool} → c ≡ false → (b && not c) ≡ b
-      go true {c} e = ap not e
-      go false e = refl
 
   -- nothing more can go: this is the core
   pub shrinks_core : (U C : Set) → Shrinks n adj U C → TwoEdged n adj C → Pruned n adj U C
@@ -135,21 +122,16 @@ module _ (n : ℕ) (adj : Adj) (U : Set) where
   -- the node i has at most one edge, and goes
   pub sweeping_goes : (C : Set) (i : ℕ) (went : Bool) → Sweeping n adj U C i went → i < n → C i ≡ true → deg n adj C i ≤ 1
       → Sweeping n adj U (without C i) (i + 1) true
+  unfolding minus
   sweeping_goes C i went s lt here low =
       let one : Shrinks n adj C (without C i) = shrinks_one n adj C i lt low in
       let all : Shrinks n adj U (without C i) = shrinks_then n adj U C (without C i) s.shrinks one in
+      let gone : without C i i ≡ false = grind (arith, nat_tests) in
       record {
         shrinks = all;
-        fewer = λ e. size_less n (without C i) U i all.inside lt (s.shrinks.inside i lt here) (gone C i);
+        fewer = λ e. size_less n (without C i) U i all.inside lt (s.shrinks.inside i lt here) gone;
         same = λ e. absurd (both_ways true e refl);
       }
-    where
-      gone : (C : Set) (i : ℕ) → without C i i ≡ false
-      gone C i =
-          elim (cases_Bool (without C i i)) [
-            | inl p ↦ absurd (both_ways (single i i) (minus_in C (single i) i p).1 (eq-eqb i i refl))
-            | inr q ↦ q
-          ]
 
   -- the node i is not there, or has two edges, and nothing changes
   pub sweeping_stays : (C : Set) (i : ℕ) (went : Bool) → Sweeping n adj U C i went → (C i ≡ true → 2 ≤ deg n adj C i)

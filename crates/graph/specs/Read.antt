@@ -1,5 +1,5 @@
 -- What the structs of the code stand for.
-use Rattle.std.specs.Prelude.{ℕ, ◌+◌}
+use Rattle.std.specs.Prelude.{ℕ, ◌+◌, map}
 use Rattle.plan.specs.Sums.{Set}
 use Rattle.graph.specs.Graphs.{Adj}
 use Rattle.graph.specs.Marks.{marked, linked}
@@ -15,4 +15,4 @@ abbrev pub node_count : SplitGraph → ℕ
 node_count g = g.count + g.count
 
 abbrev pub edges : SplitGraph → Adj
-edges g = linked g.rows
+edges g = linked (map (λ s. s.marks) g.rows)

@@ -5,7 +5,8 @@ use Rattle.std.proofs.lemmas.Fmt.{decimal_digit, decimal_step}
 use Rattle.std.proofs.lemmas.List.{append-nil, append_assoc, length-append, length_push, drop-drop, drop-set-lt, take_all, take-append-drop, take_more, take_more_set, flat_map_more}
 use Rattle.std.proofs.lemmas.Bool.{cond_both, ltb-true, ltb-false, lt-ltb, le-ltb}
 use Rattle.host.specs.Text.{Wrote}
-use Rattle.host.specs.Listing.{listing_row, listing, Listed}
+use Rattle.host.specs.Writer.{Writes}
+use Rattle.host.specs.declared.writer.Writer.{Writer}
 
 -- nothing is written
 pub wrote_none : (was : List ℕ) (at : ℕ) → Wrote was was at at []
@@ -57,25 +58,30 @@ front_one n small = rw (lt-ltb n 10 small)
 pub front_more : (n : ℕ) → 10 ≤ n → front n ≡ decimal (n / 10)
 front_more n large = rw (le-ltb n 10 large)
 
+-- a writer writes nothing
+pub writes_none : (w : Writer) → Writes w w []
+writes_none w = record { same_row = refl; same_length = refl; wrote = wrote_none w.row.now w.at }
+
+-- a writer writes two texts one after another, which are one text
+infixl 10 ◌>>◌
+pub ◌>>◌ : {u v w : Writer} {xs ys : List ℕ} → Writes u v xs → Writes v w ys → Writes u w (xs ++ ys)
+first >> second = record {
+  same_row = second.same_row ∙ first.same_row;
+  same_length = second.same_length ∙ first.same_length;
+  wrote = wrote_both first.wrote second.wrote;
+}
+
+-- what is written under another name
+pub writes_same : {u v : Writer} {xs ys : List ℕ} → Writes u v xs → xs ≡ ys → Writes u v ys
+writes_same w same = rw same at w
+
 -- the lines of one member more
-pub wrote-more :
-    (line : ℕ → List ℕ) {a b c : List ℕ} {at j k : ℕ} (ms : List ℕ) (i : ℕ) → i < length ms →
-    Wrote a b at j (flat_map line (take i ms)) → Wrote b c j k (line (get_or ms i 0)) → Wrote a c at k (flat_map line (take (i + 1) ms))
-wrote-more line ms i within first second = rw (take_more ms i 0 within, ← flat_map_more line [] (take i ms) (get_or ms i 0)) (wrote_both first second)
+pub writes-more :
+    (line : ℕ → List ℕ) {u v w : Writer} (ms : List ℕ) (i : ℕ) → i < length ms →
+    Writes u v (flat_map line (take i ms)) → Writes v w (line (get_or ms i 0)) → Writes u w (flat_map line (take (i + 1) ms))
+writes-more line ms i within first second = rw (take_more ms i 0 within, ← flat_map_more line [] (take i ms) (get_or ms i 0)) (first >> second)
 
 -- the lines of all the members
-pub wrote-all :
-    (line : ℕ → List ℕ) {was now : List ℕ} {at end : ℕ} (ms : List ℕ) (i : ℕ) → length ms ≤ i →
-    Wrote was now at end (flat_map line (take i ms)) → Wrote was now at end (flat_map line ms)
-wrote-all line ms i all w = rw (take_all i ms all) at w
-
--- what is written at the beginning of a row with room is listed if it is the listing
-pub listed :
-    (bs : List ℕ) {was now : List ℕ} {n : ℕ} {text : List ℕ} → listing_row ≤ length was → n ≤ listing_row → listing bs ≡ text →
-    Wrote was now 0 n text → Listed bs was now n
-listed bs {was} {now} {n} {text} room within is w = record {
-  room = room;
-  within = within;
-  extent = rw is (omega (arith, w.extent));
-  bytes = rw is (wrote_whole w);
-}
+pub writes-all :
+    (line : ℕ → List ℕ) {u v : Writer} (ms : List ℕ) (i : ℕ) → length ms ≤ i → Writes u v (flat_map line (take i ms)) → Writes u v (flat_map line ms)
+writes-all line ms i all w = rw (take_all i ms all) at w

@@ -2,6 +2,6 @@
 #![tactic(auto)]
 
 mod listing;
-mod text;
+mod writer;
 
 pub use listing::{ROW_LENGTH, write_listing};

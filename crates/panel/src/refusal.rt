@@ -1,10 +1,12 @@
 //! Why the panel refuses.
-ghost use Rattle.std.specs.Prelude.{◌≡◌};
+ghost use Rattle.std.specs.Prelude.{◌≡◌, Some};
 ghost use Rattle.panel.specs.Refusals.{refusal_number, refusal_place, of_choice};
+ghost use Rattle.panel.specs.Sentences.{refusal_text};
 ghost use Rattle.panel.specs.declared.refusal.Refusal.TheVariants.{Card};
 
 use cutset::ChoiceFault;
 use sources::CardFault;
+use std::error::Error;
 use std::fmt;
 
 /// Why the panel refuses. Each refusal has a number, and that of a card has a place too.
@@ -46,8 +48,11 @@ impl Refusal {
 
 /// Says the number, and in a sentence what is wrong.
 impl fmt::Display for Refusal {
+    ghost output = { λ refusal. Some (refusal_text refusal) };
+
     fn fmt<W: fmt::Write>(&self, f: &mut fmt::Formatter<W>) -> fmt::Result {
         let number = self.number();
+        // Each sentence whole: with the number written once before them, the proof of one arm did not close.
         match *self {
             Refusal::Card(fault) => write!(f, "refusal {number}: {fault}"),
             Refusal::LoopBarred => write!(
@@ -62,6 +67,8 @@ impl fmt::Display for Refusal {
         }
     }
 }
+
+impl Error for Refusal {}
 
 /// A card's fault is kept whole.
 impl From<CardFault> for Refusal {

@@ -1,3 +1,4 @@
 pub mod Sums
 pub mod Sets
 pub mod Rows
+pub mod FromFn

@@ -1,30 +1,10 @@
 -- Membership in sets that are made of others, and how a set falls into parts.
 use Rattle.std.proofs.Common.{◌≡◌, ℕ, suc, ◌+◌, ◌<◌, Bool, true, false, not, ◌&&◌, ◌||◌, eqb, ltb, ◌⊎◌, List, [], ◌∷◌, ◌++◌, length, get_or, sym, refl, ap, ◌∙◌, inl, inr, arith}
+use Rattle.std.proofs.Math.Bool.{or-false}
 use Rattle.std.proofs.Math.Path.{fun_ext}
 use Rattle.std.proofs.lemmas.Bool.{cases_lt, cases_Bool, lt-ltb, le-ltb, both_ways, or_cases, and_parts, and_from, and_left, and_right, not-true, not_from_false, eqb-true}
 use Rattle.plan.specs.Sums.{Set, on, size, among, minus, meet, with, Within}
 use Rattle.plan.proofs.Sums.{Parts, size_parts, size_member}
-
--- tests joined with a known one
-pub or-true : (b : Bool) → (b || true) ≡ true
-or-true true = refl
-or-true false = refl
-
-pub or-false : (b : Bool) → (b || false) ≡ b
-or-false true = refl
-or-false false = refl
-
-pub or_assoc : (a b c : Bool) → ((a || b) || c) ≡ (a || (b || c))
-or_assoc true b c = refl
-or_assoc false b c = refl
-
-pub and-true : (b : Bool) → (b && true) ≡ b
-and-true true = refl
-and-true false = refl
-
-pub and-false : (b : Bool) → (b && false) ≡ false
-and-false true = refl
-and-false false = refl
 
 pub minus_in : (X Y : Set) (x : ℕ) → minus X Y x ≡ true → (X x ≡ true) × (Y x ≡ false)
 unfolding minus

@@ -13,4 +13,5 @@ pub const MOST_DRIVERS: u8 = 3;
 pub const MOST_ALTERATION: u32 = 1_000_000;
 
 /// The entry of what cannot be.
+// A number among the others: the rules fix it, and cards hold it as one.
 pub const NEVER: u32 = 4_294_967_295;

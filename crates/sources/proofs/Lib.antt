@@ -4,3 +4,4 @@ pub mod RecordParts
 pub mod Lengths
 pub mod CardParts
 pub mod Opened
+pub mod Told

@@ -1,19 +1,23 @@
 -- The plan of a card that is accepted, and of one that is refused.
-use Rattle.std.proofs.Common.{◌≡◌, ℕ, ◌+◌, ◌<◌, ◌≤◌, true, cond, ltb, List, [], length, Some, None, sym, ap, ◌∙◌, subst, ⊎_elim, arith, le-ltb, lt-ltb}
+use Rattle.std.proofs.Common.{◌≡◌, ℕ, ◌+◌, ◌<◌, ◌≤◌, true, cond, ltb, List, [], length, get_or, Some, None, sym, ap, ◌∙◌, subst, ⊎_elim, arith, le-ltb, lt-ltb}
 use Rattle.std.proofs.lemmas.Bool.{cases_lt}
 use Rattle.std.specs.List.{slice_get}
 use Rattle.std.proofs.lemmas.Option.{slice_get-get_or}
 use Rattle.plan.specs.Limits.{most_drivers, never}
 use Rattle.plan.specs.Plan.{no_measures, driver_at}
 use Rattle.sources.specs.FirstLaws.{none_or_some}
-use Rattle.sources.specs.Layout.{record_length, measures_of, entries_of, record_at, byte, classes_of, barred_of, driver_count_of, driver_byte, drivers_of, weight_of, length_of, start_of, entry_of}
+use Rattle.sources.specs.Layout.{measures_of, entries_of, record_at, byte, classes_of, barred_of, driver_count_of, driver_byte, drivers_of, weight_of, length_of, start_of, entry_of}
 use Rattle.sources.specs.LayoutLaws.{length_drivers, get_or_drivers, earlier_lengths_within}
 use Rattle.sources.specs.Checks.{card_fault}
 use Rattle.sources.specs.Card.{read_card, plan_unless, card_plan}
 use Rattle.sources.specs.CardLawful.{card_lawful}
-use Rattle.sources.specs.Passed.{CardPassed}
+use Rattle.sources.specs.Inside.{Inside}
 use Rattle.sources.specs.PassedLaws.{card_passed}
 use Rattle.sources.specs.declared.fault.CardFault.{CardFault}
+
+-- the classes of a measure are the first byte of its record
+pub classes_at : (bs : List ℕ) (m place : ℕ) → place ≡ record_at m → get_or bs (place + 0) 0 ≡ classes_of bs m
+classes_at bs m place at = let same : place + 0 ≡ record_at m = omega arith in ap (λ p. get_or bs p 0) same
 
 pub card_plan_accepted : (bs : List ℕ) → card_fault bs ≡ None → card_plan bs ≡ read_card bs
 unfolding card_plan
@@ -30,18 +34,6 @@ inside_accepted bs m inside =
     (λ none. none)
     (λ s. let empty : (card_plan bs).count ≡ 0 = ap (λ p. p.count) (card_plan_refused bs s.0 s.1) in absurd (omega arith))
     (none_or_some (card_fault bs))
-
--- what is known of a measure of a card's plan: its record lies within the card, and the plan says what the record says
-pub record Inside (bs : List ℕ) (m : ℕ) : Type 0 where
-  pub passed : CardPassed bs
-  pub count : (card_plan bs).count ≡ measures_of bs
-  pub below : m < measures_of bs
-  pub within : record_at m + record_length ≤ length bs
-  pub classes : classes_of bs m ≡ (card_plan bs).classes m
-  pub weight : weight_of bs m ≡ (card_plan bs).weight m
-  pub barred : barred_of bs m ≡ (card_plan bs).barred m
-  pub drivers : drivers_of bs m ≡ (card_plan bs).drivers m
-  pub entry : (place : ℕ) → cond (ltb place (length_of bs m)) (entry_of bs (start_of bs m + place)) never ≡ (card_plan bs).entry m place
 
 pub inside : (bs : List ℕ) (m : ℕ) → m < (card_plan bs).count → Inside bs m
 inside bs m h =

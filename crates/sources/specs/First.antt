@@ -1,5 +1,5 @@
 -- Checks in a stated order, and the first of them that fails.
-use Rattle.std.specs.Prelude.{◌≡◌, ℕ, zero, suc, ◌<◌, Bool, true, false, cond, List, [], ◌∷◌, ◌++◌, Some, None, Option}
+use Rattle.std.specs.Prelude.{◌≡◌, ℕ, zero, suc, ◌<◌, Bool, true, false, cond, List, [], ◌∷◌, ◌++◌, Some, None, Option, Result, MatchResult}
 use Rattle.std.specs.List.{slice_get}
 
 -- a test that has to come out true, and the fault that is told where it does not
@@ -27,3 +27,11 @@ First cs None = (k : ℕ) (c : Check _) → slice_get cs k ≡ Some c → c.hold
 First cs (Some e) =
     (k : ℕ) × (c : Check _) × (slice_get cs k ≡ Some c) × (c.holds ≡ false) × (c.fault ≡ e)
     × ((j : ℕ) (d : Check _) → j < k → slice_get cs j ≡ Some d → d.holds ≡ true)
+
+-- a result that passes where no fault is told, and refuses with the fault where one is
+abbrev pub Tells : {A F : Type 0} → Result A F → Option F → Type 0
+Tells r told = MatchResult r (λ _. told ≡ None) (λ e. told ≡ Some e)
+
+-- a result that passes where the test holds, and refuses with the fault where it does not
+abbrev pub Passes : {A F : Type 0} → Result A F → Bool → F → Type 0
+Passes r holds fault = MatchResult r (λ _. holds ≡ true) (λ e. (holds ≡ false) × (e ≡ fault))

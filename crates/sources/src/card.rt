@@ -1,19 +1,17 @@
 //! A card: a plan in bytes, read where it lies.
-ghost use Rattle.std.specs.Prelude.{◌≡◌, ℕ, ◌<◌, Some, None, MatchResult};
-ghost use Rattle.sources.specs.First.{First};
+ghost use Rattle.std.specs.Prelude.{◌≡◌, ℕ, ◌<◌, ◌≤◌, Some, None, IfSome, IfNone, MatchResult};
+ghost use Rattle.sources.specs.First.{First, Tells};
 ghost use Rattle.sources.specs.Layout.{byte};
 ghost use Rattle.sources.specs.Checks.{card_checks, card_fault};
 ghost use Rattle.sources.specs.Card.{card_plan};
 ghost use Rattle.sources.specs.CardLawful.{card_lawful};
+ghost use Rattle.sources.specs.Inside.{Inside};
+ghost use Rattle.plan.specs.Plan.{Outside};
 
-use crate::entries::check_entries;
-use crate::fault::{CardFault, require};
-use crate::header::check_header;
-use crate::layout::{
-    BARRED, CLASSES, DRIVER_COUNT, DRIVERS, IS_BARRED, MEASURES_AT, START, WEIGHT, entry_place,
-    read_u16, read_u32, record_place,
-};
-use crate::tables::{check_records, table_length};
+use crate::fault::CardFault;
+use crate::header::Header;
+use crate::layout::{MEASURES_AT, entry_place, read_u16, read_u32};
+use crate::record::Record;
 use plan::{NEVER, Source};
 
 /// A plan as it lies in the bytes of a card. A card that fails a check stands for the plan of no measures.
@@ -31,24 +29,53 @@ impl<'a> Card<'a> {
     /// Refuses a card that fails a check, with the fault of the first that fails. The checks are made in this order: the header in rising
     /// place, the length, the records byte by byte, the total of the entries, the entries.
     pub fn check(bytes: &[u8]) -> Result<(), CardFault>
-        ensures told { MatchResult result (λ _. card_fault bytes.now ≡ None) (λ e. card_fault bytes.now ≡ Some e) }
+        ensures told { Tells result (card_fault bytes.now) }
         ensures first { MatchResult result (λ _. First (card_checks bytes.now) None) (λ e. First (card_checks bytes.now) (Some e)) }
     {
-        let header = check_header(bytes)?;
-        let total = check_records(bytes, header.measures)?;
-        require(header.entries == total, CardFault::EntryTotal)?;
-        check_entries(bytes, header)
+        Header::check(bytes)?.check_rest()
     }
 
     /// The card in these bytes. It is checked once, here; a card that is refused has no measures.
     pub fn open(bytes: &'a [u8]) -> Card<'a>
         ensures { card_plan result.bytes.now ≡ card_plan bytes.now }
     {
-        let count = match Card::check(bytes) {
-            Ok(()) => read_u16(bytes, MEASURES_AT) as u8,
-            Err(_) => 0,
-        };
-        Card { bytes, count }
+        match Card::try_from(bytes) {
+            Ok(card) => card,
+            Err(_) => Card { bytes, count: 0 },
+        }
+    }
+
+    /// The record of `m`, where that is a measure.
+    fn record(&self, m: u8) -> Option<Record<'a>>
+        ensures bytes { IfSome result (λ r. r.bytes.now ≡ self.now.bytes.now) }
+        ensures measure { IfSome result (λ r. r.m ≡ m) }
+        ensures inside { IfSome result (λ _. Inside self.now.bytes.now m) }
+        ensures past { IfNone result (self.now.count ≤ m) }
+        ensures outside { IfNone result (Outside (card_plan self.now.bytes.now) m) }
+    {
+        if m < self.count {
+            Some(Record {
+                bytes: self.bytes,
+                m,
+            })
+        } else {
+            None
+        }
+    }
+}
+
+/// The card in these bytes where no check fails, and else the fault of the first that fails.
+impl<'a> TryFrom<&'a [u8]> for Card<'a> {
+    type Error = CardFault;
+
+    ghost try_from_gives = { λ bytes r. MatchResult r (λ card. (card_fault bytes.now ≡ None) × (card.bytes.now ≡ bytes.now)) (λ e. card_fault bytes.now ≡ Some e) };
+
+    fn try_from(bytes: &'a [u8]) -> Result<Card<'a>, CardFault> {
+        Card::check(bytes)?;
+        Ok(Card {
+            bytes,
+            count: read_u16(bytes, MEASURES_AT) as u8,
+        })
     }
 }
 
@@ -62,49 +89,35 @@ impl<'a> Source for Card<'a> {
     }
 
     fn classes(&self, m: u8) -> u8 {
-        if m < self.count {
-            self.bytes[record_place(m) + CLASSES]
-        } else {
-            0
-        }
+        self.record(m).map_or(0, |record| record.classes())
     }
 
     fn weight(&self, m: u8) -> u16 {
-        if m < self.count {
-            read_u16(self.bytes, record_place(m) + WEIGHT)
-        } else {
-            0
-        }
+        self.record(m).map_or(0, |record| record.weight())
     }
 
     fn barred(&self, m: u8) -> bool {
-        if m < self.count {
-            self.bytes[record_place(m) + BARRED] == IS_BARRED
-        } else {
-            true
-        }
+        self.record(m).is_none_or(|record| record.barred())
     }
 
     fn drivers(&self, m: u8) -> u8 {
-        if m < self.count {
-            self.bytes[record_place(m) + DRIVER_COUNT]
-        } else {
-            0
-        }
+        self.record(m).map_or(0, |record| record.driver_count())
     }
 
     fn driver(&self, m: u8, position: u8) -> Option<u8> {
         if position < self.drivers(m) {
-            Some(self.bytes[record_place(m) + DRIVERS + position as usize])
+            self.record(m).map(|record| record.driver_byte(position))
         } else {
             None
         }
     }
 
     fn entry(&self, m: u8, place: u32) -> u32 {
-        if m < self.count && place < table_length(self.bytes, m) {
-            let start = read_u32(self.bytes, record_place(m) + START);
-            read_u32(self.bytes, entry_place(self.count, start + place))
+        let Some(record) = self.record(m) else {
+            return NEVER;
+        };
+        if place < record.table_length() {
+            read_u32(self.bytes, entry_place(self.count, record.start() + place))
         } else {
             NEVER
         }

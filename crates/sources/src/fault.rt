@@ -1,8 +1,11 @@
 //! Why a card is refused.
-ghost use Rattle.std.specs.Prelude.{◌≡◌, true, false, MatchResult};
+ghost use Rattle.std.specs.Prelude.{◌≡◌, Some};
+ghost use Rattle.sources.specs.First.{Passes};
 ghost use Rattle.sources.specs.Faults.{card_fault_number, card_fault_place};
+ghost use Rattle.sources.specs.Sentences.{card_fault_text};
 
 use crate::layout::ENTRIES_AT;
+use std::error::Error;
 use std::fmt;
 
 /// What is wrong with a card, and where: the first check that fails, with the byte at which its field begins, or the card's length.
@@ -60,13 +63,15 @@ impl CardFault {
 
 /// Passes where the test holds, and refuses with the fault where it does not.
 pub(crate) fn require(holds: bool, fault: CardFault) -> Result<(), CardFault>
-    ensures { MatchResult result (λ _. holds ≡ true) (λ e. (holds ≡ false) × (e ≡ fault)) }
+    ensures { Passes result holds fault }
 {
     if holds { Ok(()) } else { Err(fault) }
 }
 
 /// Says in a sentence what is wrong and at which byte.
 impl fmt::Display for CardFault {
+    ghost output = { λ fault. Some (card_fault_text fault) };
+
     fn fmt<W: fmt::Write>(&self, f: &mut fmt::Formatter<W>) -> fmt::Result {
         match *self {
             CardFault::TooShort { length } => write!(
@@ -104,3 +109,5 @@ impl fmt::Display for CardFault {
         }
     }
 }
+
+impl Error for CardFault {}

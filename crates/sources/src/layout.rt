@@ -25,9 +25,11 @@ pub const LONGEST_CARD: usize = HEADER_LENGTH
 pub const READ_LIMIT: u64 = LONGEST_CARD as u64 + 1;
 
 /// What a driver byte holds where there is no driver.
+// A number, as cards have it; what is read of it is `None`.
 pub(crate) const NO_DRIVER: u8 = 255;
 
 /// The mark of a measure that is barred; 0 marks one that is not.
+// A number, as cards have it; what is read of it is `true`.
 pub(crate) const IS_BARRED: u8 = 1;
 
 /// The place in the header of the number of measures, in two bytes.
@@ -90,6 +92,7 @@ pub(crate) fn entry_place(measures: u8, number: u32) -> usize
 }
 
 /// The number in the two bytes at a place, low byte first.
+// Two functions, this and the next: with the bytes taken by a const parameter there would be three, and none plainer.
 pub(crate) fn read_u16(bytes: &[u8], place: usize) -> u16
     requires { place + 2 ≤ length bytes.now }
     ensures { result ≡ le16 bytes.now place }

@@ -2,12 +2,10 @@
 #![tactic(auto)]
 
 mod card;
-mod entries;
 mod fault;
 mod header;
 mod layout;
 mod record;
-mod tables;
 
 pub use card::Card;
 pub use fault::CardFault;

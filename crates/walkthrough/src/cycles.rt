@@ -22,36 +22,19 @@ fn touches(graph: &SplitGraph, x: usize, set: &NumberSet) -> bool {
 
 /// Whether `node` lies on a cycle: whether two of its neighbours are joined by a way that does not pass through it.
 pub(crate) fn lies_on_cycle(graph: &SplitGraph, node: usize) -> bool {
-    for start in 0..graph.nodes() {
-        if graph.has_edge(node, start) {
-            let reached = reached_without(graph, node, start);
-            if graph.degree(&reached, node) > 1 {
-                return true;
-            }
-        }
-    }
-    false
+    (0..graph.nodes()).any(|start| {
+        graph.has_edge(node, start) && graph.degree(&reached_without(graph, node, start), node) > 1
+    })
 }
 
 /// The measures whose value node or table node is in `nodes`.
 pub(crate) fn measures_in(graph: &SplitGraph, nodes: &NumberSet) -> NumberSet {
     let count = graph.nodes() / 2;
-    let mut measures = NumberSet::empty();
-    for m in 0..count {
-        if nodes.contains(m) || nodes.contains(count + m) {
-            measures.insert(m);
-        }
-    }
-    measures
+    NumberSet::from_fn(count, |m| nodes.contains(m) || nodes.contains(count + m))
 }
 
 /// The measures that lie on a loop: those whose value node or table node lies on a cycle.
 pub(crate) fn measures_on_loops(graph: &SplitGraph) -> NumberSet {
-    let mut nodes = NumberSet::empty();
-    for node in 0..graph.nodes() {
-        if lies_on_cycle(graph, node) {
-            nodes.insert(node);
-        }
-    }
+    let nodes = NumberSet::from_fn(graph.nodes(), |node| lies_on_cycle(graph, node));
     measures_in(graph, &nodes)
 }

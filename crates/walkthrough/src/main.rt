@@ -6,7 +6,7 @@ mod names;
 
 use crate::cycles::{measures_in, measures_on_loops};
 use crate::names::name_of;
-use cutset::{Cutset, Picks, choose_cutset, pick_measures};
+use cutset::{Cutset, Pick, Picks, choose_cutset, pick_measures};
 use graph::{NumberSet, SplitGraph};
 use host::{ROW_LENGTH, write_listing};
 use plan::Source;
@@ -16,33 +16,27 @@ use std::io::{Read, Write};
 
 /// The members of a set below `count`, by name.
 fn named(heap: Global, set: &NumberSet, count: u8) -> Result<String, AllocError> {
-    let mut text = String::new(heap);
-    for m in 0..count {
-        if set.contains(m as usize) {
-            if !text.is_empty() {
-                text.push_str(", ")?;
-            }
-            text.push_str(name_of(m))?;
-        }
+    let names: Vec<&str> = (0..count)
+        .filter(|m| set.contains(*m as usize))
+        .map(name_of)
+        .collect(heap)?;
+    if names.is_empty() {
+        return String::from_str(heap, "none");
     }
-    if text.is_empty() {
-        text.push_str("none")?;
-    }
-    Ok(text)
+    names.join(heap, ", ")
 }
 
-/// The drivers of a measure, by name.
+/// The drivers of a measure.
 fn drivers<S: Source>(source: &S, m: u8) -> NumberSet {
     let mut set = NumberSet::empty();
-    for position in 0..source.drivers(m) {
-        if let Some(driver) = source.driver(m, position) {
-            set.insert(driver as usize);
-        }
+    for driver in (0..source.drivers(m)).filter_map(|position| source.driver(m, position)) {
+        set.insert(driver as usize);
     }
     set
 }
 
 /// Says what the card holds.
+// The functions that print take what they print: a struct of it all would be no plainer.
 fn show_measures<S: Source>(rt: &HostRuntime, source: &S) -> anyhow::Result<()> {
     let count = source.count();
     println!(rt; "It holds a plan of {count} measures:")?;
@@ -71,9 +65,8 @@ fn show_loops(rt: &HostRuntime, graph: &SplitGraph, count: u8) -> anyhow::Result
 /// Says what was picked, in which order, and at which share.
 fn show_picks(rt: &HostRuntime, picks: &Picks) -> anyhow::Result<()> {
     println!(rt; "Picked, each time the smallest share of what is left:")?;
-    for pick in picks.as_slice() {
-        let name = name_of(pick.measure);
-        let share = pick.share;
+    for Pick { measure, share } in picks.as_slice() {
+        let name = name_of(*measure);
         println!(rt; "  {name}, at share {share}")?;
     }
     Ok(())
@@ -110,8 +103,8 @@ fn show_choice(rt: &HostRuntime, cutset: &Cutset) -> anyhow::Result<()> {
     let weight = cutset.weight();
     let settings = cutset.settings();
     println!(rt; "Held, with weight {weight} and {settings} settings:")?;
-    for m in cutset.members() {
-        let name = name_of(*m);
+    for &m in cutset.members() {
+        let name = name_of(m);
         println!(rt; "  {m:2} {name}")?;
     }
     Ok(())
@@ -141,9 +134,8 @@ fn follow<S: Source>(rt: &HostRuntime, source: &S) -> anyhow::Result<()> {
 fn show_listing(rt: &HostRuntime, card: &[u8]) -> anyhow::Result<()> {
     println!(rt; "The listing:")?;
     let mut row = [0; ROW_LENGTH];
-    if let Ok(length) = write_listing(card, &mut row) {
-        rt.stdout().write_all(&row[0..length])?;
-    }
+    let length = write_listing(card, &mut row)?;
+    rt.stdout().write_all(&row[..length])?;
     Ok(())
 }
 
@@ -151,11 +143,11 @@ fn main(rt: HostRuntime) -> anyhow::Result<()> {
     let mut card = Vec::new(rt.alloc());
     rt.stdin().take(READ_LIMIT).read_to_end(&mut card)?;
     let length = card.len();
-    match Card::check(card.as_slice()) {
+    match Card::check(&card) {
         Ok(()) => println!(rt; "The card has {length} bytes and no fault.")?,
         Err(fault) => println!(rt; "The card has {length} bytes and is refused: {fault}")?,
     }
-    let source = Card::open(card.as_slice());
+    let source = Card::open(&card);
     follow(&rt, &source)?;
-    show_listing(&rt, card.as_slice())
+    show_listing(&rt, &card)
 }

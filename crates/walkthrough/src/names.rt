@@ -22,10 +22,8 @@ static NAMES: [&str; 16] = [
 
 /// What a measure is called; a card with more measures than the jacket has some with no name.
 pub(crate) fn name_of(measure: u8) -> &'static str {
-    let at = measure as usize;
-    if at < NAMES.len() {
-        NAMES[at]
-    } else {
-        "another measure"
-    }
+    NAMES
+        .get(measure as usize)
+        .copied()
+        .unwrap_or("another measure")
 }

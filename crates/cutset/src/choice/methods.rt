@@ -5,10 +5,12 @@ ghost use Rattle.cutset.specs.Method.{most_settings, capped, choice_of};
 ghost use Rattle.cutset.specs.Tables.{told};
 
 use crate::choice::Cutset;
+use crate::fixed_list::FixedList;
 use graph::NumberSet;
-use plan::{MOST_MEASURES, Source};
+use plan::Source;
 
 /// The most settings that are counted; one more stands for any larger number.
+// One more is a number too: the rules fix it, and listings tell it.
 pub const MOST_SETTINGS: u32 = 65_536;
 
 impl Cutset {
@@ -16,7 +18,7 @@ impl Cutset {
     pub fn members(&self) -> &[u8]
         ensures { result.now ≡ (told self.now).members }
     {
-        &self.members[0..self.count]
+        self.members.as_slice()
     }
 
     /// The members' weight.
@@ -37,21 +39,18 @@ impl Cutset {
     pub(crate) fn of<S: Source>(source: &S, held: &NumberSet) -> Cutset
         ensures { told result ≡ choice_of (S.Source.plan source.now) (set_of held.now) }
     {
-        let mut members = [0; MOST_MEASURES];
-        let mut count = 0;
+        let mut members = FixedList::new(0);
         let mut weight = 0;
         let mut settings = 1;
         for m in 0..source.count() {
             if held.contains(m as usize) {
-                members[count] = m;
-                count += 1;
+                members.push(m);
                 weight += source.weight(m) as u32;
                 settings = times_capped(settings, source.classes(m));
             }
         }
         Cutset {
             members,
-            count,
             weight,
             settings,
         }

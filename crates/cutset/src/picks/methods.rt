@@ -1,15 +1,15 @@
 //! How the picks are kept.
-ghost use Rattle.std.specs.Prelude.{◌≡◌, ◌<◌, [], ◌∷◌, ◌++◌};
+ghost use Rattle.std.specs.Prelude.{◌≡◌, ◌<◌, [], ◌∷◌, ◌++◌, length};
 ghost use Rattle.plan.specs.Limits.{most_measures};
 ghost use Rattle.plan.specs.Sums.{among};
 ghost use Rattle.graph.specs.Read.{set_of};
 ghost use Rattle.cutset.specs.Method.{measures};
 ghost use Rattle.cutset.specs.Tables.{picked};
 
+use crate::fixed_list::FixedList;
 use crate::pick::Pick;
 use crate::picks::Picks;
 use graph::NumberSet;
-use plan::MOST_MEASURES;
 
 impl Picks {
     /// No picks.
@@ -17,28 +17,27 @@ impl Picks {
         ensures { picked result ≡ [] }
     {
         Picks {
-            list: [Pick {
+            list: FixedList::new(Pick {
                 measure: 0,
                 share: 0,
-            }; MOST_MEASURES],
-            count: 0,
+            }),
         }
     }
 
     /// Adds a pick after the others.
     pub(crate) fn push(&mut self, pick: Pick)
-        requires { (self.old.count < most_measures) × (pick.measure < most_measures) }
+        requires room { length (picked self.old) < most_measures }
+        requires known { pick.measure < most_measures }
         ensures { picked self.new ≡ picked self.old ++ (pick ∷ []) }
     {
-        self.list[self.count] = pick;
-        self.count += 1;
+        self.list.push(pick);
     }
 
     /// The picks in the order of picking.
     pub fn as_slice(&self) -> &[Pick]
         ensures { result.now ≡ picked self.now }
     {
-        &self.list[0..self.count]
+        self.list.as_slice()
     }
 
     /// The set of the picked measures.

@@ -1,10 +1,11 @@
 //! What a set of small numbers can be asked, and how it changes.
-ghost use Rattle.std.specs.Prelude.{◌≡◌, false, if◌then◌else◌, ◌==◌, nat_lt};
+ghost use Rattle.std.specs.Prelude.{◌≡◌, ℕ, ◌<◌, ◌≤◌, min, false, if◌then◌else◌, ◌==◌, nat_lt};
 ghost use Rattle.plan.specs.Sums.{size, union, with, without};
 ghost use Rattle.graph.specs.Read.{set_of};
 ghost use Rattle.graph.specs.Split.{most_nodes};
 
 use crate::set::{MOST_NODES, NumberSet};
+use std::array;
 
 impl NumberSet {
     /// The set with no member.
@@ -16,7 +17,23 @@ impl NumberSet {
         }
     }
 
+    /// The numbers below `n` that pass a test; those that are too large for any set are left out.
+    pub fn from_fn<F: Fn(usize) -> bool>(n: usize, test: F) -> NumberSet
+        requires { (x : ℕ) → x < min n most_nodes → F.pre test x }
+        ensures tested { (x : ℕ) → x < min n most_nodes → F.post test x (set_of result x) }
+        ensures beyond { (x : ℕ) → min n most_nodes ≤ x → set_of result x ≡ false }
+    {
+        NumberSet {
+            marks: array::from_fn(
+                |x|
+                    requires { x < n → F.pre test x }
+                { x < n && test(x) },
+            ),
+        }
+    }
+
     /// Whether `x` is a member.
+    // A test of the index, here and below: what `get_mut` promises says nothing of the mark, and to read one `get` is no plainer.
     pub fn contains(&self, x: usize) -> bool
         ensures { result ≡ set_of self.now x }
     {
@@ -24,6 +41,7 @@ impl NumberSet {
     }
 
     /// Makes `x` a member; `false`, and nothing changed, where it is too large for any set.
+    // A truth value and no `Result`: who puts in nodes and measures passes it over.
     pub fn insert(&mut self, x: usize) -> bool
         ensures answer { result ≡ nat_lt x most_nodes }
         ensures after { set_of self.new ≡ (if result then with (set_of self.old) x else set_of self.old) }
@@ -48,24 +66,13 @@ impl NumberSet {
     pub fn union(&self, other: &NumberSet) -> NumberSet
         ensures { set_of result ≡ union (set_of self.now) (set_of other.now) }
     {
-        let mut members = *self;
-        for x in 0..MOST_NODES {
-            if other.contains(x) {
-                members.insert(x);
-            }
-        }
-        members
+        NumberSet::from_fn(MOST_NODES, |x| self.contains(x) || other.contains(x))
     }
 
     /// Whether there is no member below `n`.
     pub fn is_empty_below(&self, n: usize) -> bool
         ensures { result ≡ (size n (set_of self.now) == 0) }
     {
-        for x in 0..n {
-            if self.contains(x) {
-                return false;
-            }
-        }
-        true
+        (0..n).all(|x| !self.contains(x))
     }
 }

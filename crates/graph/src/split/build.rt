@@ -5,7 +5,7 @@ ghost use Rattle.plan.specs.Plan.{scope};
 ghost use Rattle.graph.specs.Read.{edges};
 ghost use Rattle.graph.specs.Split.{most_nodes, split, joined, linked_to};
 
-use crate::set::MOST_NODES;
+use crate::set::{MOST_NODES, NumberSet};
 use crate::split::SplitGraph;
 use plan::Source;
 
@@ -31,13 +31,14 @@ impl SplitGraph {
     {
         SplitGraph {
             count,
-            rows: [[false; MOST_NODES]; MOST_NODES],
+            rows: [NumberSet::empty(); MOST_NODES],
         }
     }
 
     /// Links the table node of `table` to the value nodes of the measures that it reads.
     fn link_table<S: Source>(&mut self, source: &S, table: u8)
-        requires { (self.old.count ≡ (S.Source.plan source.now).count) × (table < self.old.count) }
+        requires same_plan { self.old.count ≡ (S.Source.plan source.now).count }
+        requires table_in_bounds { table < self.old.count }
         ensures count { self.new.count ≡ self.old.count }
         ensures edges { edges self.new ≡ linked_to (edges self.old) (self.old.count + table) (scope (S.Source.plan source.now) table) }
     {
@@ -52,11 +53,14 @@ impl SplitGraph {
 
     /// Marks the edge between `x` and `y`.
     fn link(&mut self, x: usize, y: usize)
-        requires { (x < most_nodes) × (y < most_nodes) }
+        requires x_in_bounds { x < most_nodes }
+        requires y_in_bounds { y < most_nodes }
         ensures count { self.new.count ≡ self.old.count }
         ensures edges { edges self.new ≡ joined (edges self.old) x y }
     {
-        self.rows[x][y] = true;
-        self.rows[y][x] = true;
+        // by a name of its own: a change through a field and an index at once is not followed
+        let rows = &mut self.rows;
+        rows[x].insert(y);
+        rows[y].insert(x);
     }
 }

@@ -20,19 +20,18 @@ impl SplitGraph {
     }
 
     /// Whether an edge joins two nodes.
+    // A test of the index: by `get` it would be no plainer, as in `NumberSet::contains`.
     pub fn has_edge(&self, x: usize, y: usize) -> bool
         ensures { result ≡ edges self.now x y }
     {
-        if x >= MOST_NODES || y >= MOST_NODES {
-            return false;
-        }
-        self.rows[x][y]
+        x < MOST_NODES && self.rows[x].contains(y)
     }
 
     /// How many edges lead from `node` into the nodes `within`.
     pub fn degree(&self, within: &NumberSet, node: usize) -> usize
         ensures { result ≡ deg (node_count self.now) (edges self.now) (set_of within.now) node }
     {
+        // A loop: by `filter` and `count` a choice takes four times as long.
         let mut edges = 0;
         for x in 0..self.nodes() {
             if within.contains(x) && self.has_edge(node, x) {
@@ -78,12 +77,9 @@ impl SplitGraph {
     pub fn without(&self, measures: &NumberSet) -> NumberSet
         ensures { set_of result ≡ remaining self.now.count (set_of measures.now) }
     {
-        let mut nodes = NumberSet::empty();
-        for node in 0..self.nodes() {
-            if node >= self.count || !measures.contains(node) {
-                nodes.insert(node);
-            }
-        }
-        nodes
+        NumberSet::from_fn(
+            self.nodes(),
+            |node| node >= self.count || !measures.contains(node),
+        )
     }
 }

@@ -1,5 +1,5 @@
 use Rattle.std.proofs.Common.{arith}
-use Rattle.graph.specs.Marks.{marked}
+use Rattle.graph.specs.Read.{set_of}
 use Rattle.graph.proofs.Marks.{marked_past, marked-without, without_absent}
 use Rattle.graph.proofs.set.NumberSet.remove.Goals as goal
 
@@ -8,4 +8,4 @@ returns-then-x-lt-MOST_NODES c = marked-without c.args.self.now.marks c.args.x (
 
 pub returns-else-x-lt-MOST_NODES : goal.returns-else-x-lt-MOST_NODES
 returns-else-x-lt-MOST_NODES c =
-    without_absent (marked c.args.self.now.marks) c.args.x (marked_past c.args.self.now.marks c.args.x (omega arith))
+    without_absent (set_of c.args.self.now) c.args.x (marked_past c.args.self.now.marks c.args.x (omega arith))

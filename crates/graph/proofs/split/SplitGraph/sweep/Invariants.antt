@@ -1,8 +1,7 @@
-use Rattle.std.proofs.Common.{◌+◌}
-use Rattle.graph.specs.Marks.{marked, linked}
+use Rattle.graph.specs.Read.{set_of, edges, node_count}
 use Rattle.graph.proofs.Pruning.{Sweeping}
 use Rattle.graph.proofs.split.SplitGraph.sweep.Given as goal
 
 abbrev pub invariant-loop-node : goal.invariant-loop-node
 invariant-loop-node l =
-    Sweeping (l.self.count + l.self.count) (linked l.self.rows) (marked l.initial.nodes.marks) (marked l.nodes.marks) l.node l.went
+    Sweeping (node_count l.self) (edges l.self) (set_of l.initial.nodes) (set_of l.nodes) l.node l.went

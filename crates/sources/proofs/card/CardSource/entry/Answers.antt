@@ -1,61 +1,27 @@
-use Rattle.std.proofs.Common.{◌≡◌, ◌+◌, ◌*◌, ◌<◌, ◌≤◌, cond, sym, ap, ◌∙◌, arith}
-use Rattle.std.proofs.lemmas.Bool.{lt-ltb, le-ltb}
-use Rattle.plan.specs.Limits.{never}
-use Rattle.sources.specs.Layout.{entry_length, le32, record_at, length_of, start_of, entry_of, measures_of}
-use Rattle.sources.proofs.Opened.{inside, outside_entry, entry_within}
+use Rattle.std.proofs.Common.{◌≡◌, ℕ, ◌+◌, ◌<◌, List, ap, ◌∙◌, arith}
+use Rattle.sources.specs.Layout.{length_of, start_of, entries_of}
+use Rattle.sources.specs.Inside.{Inside}
+use Rattle.sources.proofs.Opened.{outside_entry, entry_within}
 use Rattle.sources.proofs.card.CardSource.entry.Goals as goal
-use Rattle.sources.proofs.card.CardSource.entry.Goals.{else-m-self-via-then-m-self+else-place-table_length, else-m-self-via-else-m-self}
 
-pub table_length-requires : goal.table_length-requires
-table_length-requires c =
-    let known = inside c.args.self.now.bytes.now c.args.m (omega arith) in
-    (known.within, (omega (arith, known.passed.header.few_measures, known.below), λ k h. known.passed.records k (omega (arith, known.below))))
+-- a place that is within the length of a record's table is that of one of the card's entries
+place_within : (bs xs : List ℕ) (m k place start len : ℕ) → Inside bs m → xs ≡ bs → k ≡ m → start ≡ start_of xs k → len ≡ length_of xs k → place < len → start + place < entries_of bs
+place_within bs xs m k place start len known bytes measure begins long h =
+    let begins' : start ≡ start_of bs m = begins ∙ ap (λ ys. start_of ys k) bytes ∙ ap (start_of bs) measure in
+    let long' : len ≡ length_of bs m = long ∙ ap (λ ys. length_of ys k) bytes ∙ ap (length_of bs) measure in
+    omega (arith, entry_within bs m place known (omega (arith, long')))
 
-pub read_u32-start-requires : goal.read_u32-start-requires
-read_u32-start-requires c = let known = inside c.args.self.now.bytes.now c.args.m (omega arith) in omega (arith, known.within)
+pub returns-in_default : goal.returns-in_default
+returns-in_default c = outside_entry c.args.self.now.bytes.now c.args.m c.args.place (omega (arith, c.in_default.ensures.past, c.args.self.now.opened))
 
 pub overflow_add-start : goal.overflow_add-start
 overflow_add-start c =
-    let bs = c.args.self.now.bytes.now in
-    let m = c.args.m in
-    let known = inside bs m (omega arith) in
-    let start : c.read_u32-start.result ≡ start_of bs m = c.read_u32-start.ensures ∙ ap (λ place. le32 bs (place + 12)) c.record_place.ensures in
-    let below : c.args.place < length_of bs m = omega (arith, c.if-place-table_length.true, c.table_length.ensures) in
-    omega (arith, start, entry_within bs m c.args.place known below, known.passed.header.few_entries)
+    let known = c.in-Some.ensures.inside in
+    let place = place_within c.args.self.now.bytes.now c.in-Some.record.bytes.now c.args.m c.in-Some.record.m c.args.place _ _ known c.in-Some.ensures.bytes c.in-Some.ensures.measure c.start.ensures c.table_length.ensures c.if-place-table_length.true in
+    omega (arith, place, known.passed.header.few_entries)
 
 pub read_u32-requires : goal.read_u32-requires
 read_u32-requires c =
-    let bs = c.args.self.now.bytes.now in
-    let m = c.args.m in
-    let known = inside bs m (omega arith) in
-    let start : c.read_u32-start.result ≡ start_of bs m = c.read_u32-start.ensures ∙ ap (λ place. le32 bs (place + 12)) c.record_place.ensures in
-    let below : c.args.place < length_of bs m = omega (arith, c.if-place-table_length.true, c.table_length.ensures) in
-    omega (arith, start, entry_within bs m c.args.place known below, known.count, known.passed.header.as_long, c.entry_place.ensures)
-
-pub returns-then-place-table_length : goal.returns-then-place-table_length
-returns-then-place-table_length c =
-    let bs = c.args.self.now.bytes.now in
-    let m = c.args.m in
-    let place = c.args.place in
-    let known = inside bs m (omega arith) in
-    let start : c.read_u32-start.result ≡ start_of bs m = c.read_u32-start.ensures ∙ ap (λ p. le32 bs (p + 12)) c.record_place.ensures in
-    let below : place < length_of bs m = omega (arith, c.if-place-table_length.true, c.table_length.ensures) in
-    let at : c.entry_place.result ≡ record_at (measures_of bs) + entry_length * (start_of bs m + place) =
-    omega (arith, c.entry_place.ensures, known.count, start) in
-    c.read_u32.ensures
-    ∙ ap (λ p. le32 bs p) at
-    ∙ sym (ap (λ t. cond t (entry_of bs (start_of bs m + place)) never) (lt-ltb place (length_of bs m) below))
-    ∙ known.entry place
-
-pub returns-else-m-self : goal.returns-else-m-self
-returns-else-m-self c =
-    let bs = c.args.self.now.bytes.now in
-    let m = c.args.m in
-    let place = c.args.place in
-    elim c.else-m-self.branch [
-      | else-m-self-via-then-m-self+else-place-table_length w ↦
-          let known = inside bs m (omega (arith, w.if-m-self.true)) in
-          let past : length_of bs m ≤ place = omega (arith, w.if-place-table_length.false, w.table_length.ensures) in
-          sym (ap (λ t. cond t (entry_of bs (start_of bs m + place)) never) (le-ltb place (length_of bs m) past)) ∙ known.entry place
-      | else-m-self-via-else-m-self w ↦ outside_entry bs m place (omega (arith, w.if-m-self.false))
-    ]
+    let known = c.in-Some.ensures.inside in
+    let place = place_within c.args.self.now.bytes.now c.in-Some.record.bytes.now c.args.m c.in-Some.record.m c.args.place _ _ known c.in-Some.ensures.bytes c.in-Some.ensures.measure c.start.ensures c.table_length.ensures c.if-place-table_length.true in
+    omega (arith, place, known.count, c.args.self.now.opened, known.passed.header.as_long, c.entry_place.ensures)
