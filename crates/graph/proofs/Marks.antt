@@ -8,8 +8,16 @@ use Rattle.std.proofs.lemmas.Grind.{elements}
 use Rattle.plan.specs.Sums.{Set, minus, union, with, without}
 use Rattle.plan.proofs.Rows.{same_row}
 use Rattle.std.proofs.Math.Bool.{or_assoc}
-use Rattle.graph.specs.Marks.{marked, linked, below, TestsFor}
+use Rattle.graph.specs.Marks.{marked, linked}
 use Rattle.graph.specs.Split.{most_nodes, joined}
+
+-- the members of X below n
+unfoldable pub below : ℕ → Set → Set
+below n X x = ltb x n && X x
+
+-- whatever a test can answer on a number below n, it tells whether that is a member of X; `gives x r` is that the test can answer r on x
+abbrev pub TestsFor : (ℕ → Bool → Type 0) → ℕ → Set → Type 0
+TestsFor gives n X = (x : ℕ) (r : Bool) → x < n → gives x r → r ≡ X x
 
 pub marked_past : (bs : List Bool) (x : ℕ) → length bs ≤ x → marked bs x ≡ false
 marked_past bs x h = get_or_past bs x false h
