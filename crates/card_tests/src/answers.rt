@@ -1,4 +1,7 @@
-//! What a card answers of one measure, to be held against what it has to answer.
+//! What a card answers, to be held against what it has to answer.
+ghost use Rattle.std.specs.Prelude.{◌≤◌};
+ghost use Rattle.plan.specs.Limits.{most_measures};
+
 use plan::{NEVER, Source};
 use sources::Card;
 
@@ -36,4 +39,11 @@ pub(crate) fn ask(card: &Card, m: u8) -> Answers {
         second: card.driver(m, 1),
         entries: (card.entry(m, 0), card.entry(m, 1)),
     }
+}
+
+/// How many measures a source has, whatever it is. No more than there may be: that its plan is lawful is known of a `&dyn Source` too.
+pub(crate) fn measures(source: &dyn Source) -> u8
+    ensures { result ≤ most_measures }
+{
+    source.count()
 }

@@ -1,5 +1,5 @@
-//! The largest cards: one of 64 measures, and one of 12,288 entries, which is the longest.
-use crate::answers::{Answers, OUTSIDE, ask};
+//! The largest cards: one of the most measures, one of the most entries, and how long a card can be.
+use crate::answers::{Answers, OUTSIDE, ask, measures};
 use plan::{NEVER, Source};
 use sources::{Card, LONGEST_CARD, READ_LIMIT};
 use std::alloc::{AllocError, Global};
@@ -26,6 +26,7 @@ fn most_measures(rt: HostRuntime) -> Result<(), Fail> {
     Card::check(&bytes)?;
     let card = Card::open(&bytes);
     assert_eq!(rt; card.count(), 64);
+    assert_eq!(rt; measures(&card), 64);
     for m in 1..64u8 {
         let expected = Answers {
             classes: 1,

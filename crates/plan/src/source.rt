@@ -8,6 +8,10 @@ pub trait Source {
     /// The plan that this stands for.
     ghost plan: { Self → Plan };
 
+    /// It keeps every limit of a plan.
+    // Above the functions: what stands below them is a law, which no clause can name, nor a proof about a `&dyn Source`.
+    ghost lawful: { (s : Self) → Lawful (plan s) };
+
     /// The number of measures.
     fn count(&self) -> u8
         ensures { result ≡ (plan self.now).count };
@@ -35,7 +39,4 @@ pub trait Source {
     /// The entry at a place of the table of `m`: the first driver's class turns slowest, the own class fastest.
     fn entry(&self, m: u8, place: u32) -> u32
         ensures { result ≡ (plan self.now).entry m place };
-
-    /// Its plan keeps every limit.
-    ghost lawful: { (s : Self) → Lawful (plan s) };
 }

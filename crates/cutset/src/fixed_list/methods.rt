@@ -1,5 +1,5 @@
 //! How a list in fixed memory is filled and read.
-ghost use Rattle.std.specs.Prelude.{◌≡◌, ◌<◌, [], ◌∷◌, ◌++◌, length};
+ghost use Rattle.std.specs.Prelude.{◌≡◌, ◌<◌, [], ◌∷◌, ◌++◌, length, replicate, slice_set};
 ghost use Rattle.cutset.specs.Lists.{listed};
 
 use crate::fixed_list::FixedList;
@@ -7,7 +7,8 @@ use crate::fixed_list::FixedList;
 impl<T: Copy, const N: usize> FixedList<T, N> {
     /// The list of no items; `blank` stands in the unused places.
     pub(crate) fn new(blank: T) -> FixedList<T, N>
-        ensures { listed result ≡ [] }
+        ensures items { listed result ≡ [] }
+        ensures places { result.places ≡ replicate N blank }
     {
         FixedList {
             places: [blank; N],
@@ -18,7 +19,8 @@ impl<T: Copy, const N: usize> FixedList<T, N> {
     /// Adds an item after the others.
     pub(crate) fn push(&mut self, item: T)
         requires { length (listed self.old) < N }
-        ensures { listed self.new ≡ listed self.old ++ (item ∷ []) }
+        ensures items { listed self.new ≡ listed self.old ++ (item ∷ []) }
+        ensures places { self.new.places ≡ slice_set self.old.places self.old.len item }
     {
         self.places[self.len] = item;
         self.len += 1;

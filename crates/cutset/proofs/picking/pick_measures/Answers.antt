@@ -55,7 +55,7 @@ push-requires g c =
     let some : 1 ≤ size (node_count s.graph.now) (meet C F) = size_member (node_count s.graph.now) (meet C F) m here.0 (meet_from C F m here.1 here.2) in
     record {
       room = omega (arith, c.loop-measure.invariant.picking.few, some, s.graph.now.few);
-      known = omega (arith, unbarred_below p m (rw (← c.loop-measure.invariant.free) here.2), (g.met.S.Source.lawful c.args.source.now).few_measures);
+      known = omega (arith, unbarred_below p m (rw (← c.loop-measure.invariant.free) here.2), (g.S.Source.lawful c.args.source.now).few_measures);
     }
 
 pub loop-measure-smaller : goal.loop-measure-smaller

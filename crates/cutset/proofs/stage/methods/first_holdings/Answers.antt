@@ -37,7 +37,7 @@ module _ (p : Plan) (law : Lawful p) where
 pub invariant_of-result : goal.invariant_of-result
 invariant_of-result g c =
     let p : Plan = g.S.Source.plan c.args.source.now in
-    let law : Lawful p = g.met.S.Source.lawful c.args.source.now in
+    let law : Lawful p = g.S.Source.lawful c.args.source.now in
     let held = held_first p law c.from_fn-amounts.ensures.items (λ i y q lt told. (search rules, search rules)) in record {
       full = c.from_fn-amounts.ensures.items.long;
       bounded = λ v. omega (arith, held v, first_holding_bounded p law v);
@@ -46,5 +46,5 @@ invariant_of-result g c =
 pub returns : goal.returns
 returns g c =
     let p : Plan = g.S.Source.plan c.args.source.now in
-    let law : Lawful p = g.met.S.Source.lawful c.args.source.now in
+    let law : Lawful p = g.S.Source.lawful c.args.source.now in
     fun_ext (held_first p law c.from_fn-amounts.ensures.items (λ i y q lt told. (search rules, search rules)))

@@ -11,6 +11,6 @@ unfolding unbarred below
 returns g c =
     let p : Plan = g.S.Source.plan c.args.source.now in
     let X : Set = λ v. not (p.barred v) in
-    let few : min c.count.result most_nodes ≡ p.count = omega (arith, c.count.ensures, (g.met.S.Source.lawful c.args.source.now).few_measures) in
+    let few : min c.count.result most_nodes ≡ p.count = omega (arith, c.count.ensures, (g.S.Source.lawful c.args.source.now).few_measures) in
     made_by_test (λ x r. r ≡ X x) c.count.result _ X
     (λ x lt. let told = c.from_fn.ensures.tested x lt in search rules) c.from_fn.ensures.beyond (λ x r lt told. told) ∙ ap (λ n. below n X) few

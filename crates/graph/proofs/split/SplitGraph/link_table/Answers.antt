@@ -14,7 +14,7 @@ pub link-requires-clause-y_in_bounds : goal.link-requires-clause-y_in_bounds
 link-requires-clause-y_in_bounds g c =
     let ds : List ℕ = (g.S.Source.plan c.args.source.now).drivers c.args.table in
     let i = c.loop-position.position in
-    let lower = (g.met.S.Source.lawful c.args.source.now).lower_drivers c.args.table i (omega (arith, c.drivers-position-end.ensures)) in
+    let lower = (g.S.Source.lawful c.args.source.now).lower_drivers c.args.table i (omega (arith, c.drivers-position-end.ensures)) in
     omega (arith, c.args.self.now.few, get_or_from_slice_get ds i c.in-Some.driver 0 (sym c.in-Some.ensures))
 
 pub loop-position-preserved : goal.loop-position-preserved
