@@ -46,7 +46,9 @@ impl<'a> Header<'a> {
     {
         let total = self.check_records()?;
         require(self.entries == total, CardFault::EntryTotal)?;
-        self.check_entries()
+        // By `?` and `Ok`, so that the compiled loop over the entries sets the answer once, at its end, and not in each turn.
+        self.check_entries()?;
+        Ok(())
     }
 
     /// Checks the records of all measures in their order, and answers how many entries their tables have together.

@@ -1,34 +1,37 @@
-use Rattle.std.proofs.Common.{◌≡◌, ℕ, ◌<◌, Bool, true, false, ◌==◌, length, rules, tests, sym, refl, inl, inr, zero-add, arith}
-use Rattle.std.specs.Bool.{MatchBool}
-use Rattle.std.specs.List.{range_with_len, AllWithin, HoldsAt}
-use Rattle.std.proofs.lemmas.Bool.{eq-eqb, ne_eqb, both_ways}
-use Rattle.std.proofs.lemmas.Iterator.{YieldsList-from_range, cases_from_all}
-use Rattle.std.proofs.lemmas.List.FromFn.{get_or-range_with_len, length-range_with_len}
-use Rattle.plan.specs.Sums.{Set, size}
+use Rattle.std.proofs.Common.{◌≡◌, ℕ, ◌<◌, min, Bool, true, false, not, ◌==◌, List, length, take, refl, sym, ◌∙◌, inl, inr, arith, length-take, get_or-take}
+use Rattle.std.specs.Bool.{Decides}
+use Rattle.std.specs.Cmp.{booleans_Decides}
+use Rattle.std.specs.List.{HoldsAt}
+use Rattle.std.proofs.lemmas.Bool.{cases_lt, eq-eqb, ne_eqb, both_ways}
+use Rattle.std.proofs.lemmas.Grind.{elements}
+use Rattle.std.proofs.lemmas.List.Elements.{contains_decides}
+use Rattle.plan.specs.Sums.{size}
 use Rattle.plan.proofs.Sums.{size_find, size_member}
-use Rattle.graph.specs.Read.{set_of}
+use Rattle.graph.specs.Marks.{marked}
+use Rattle.graph.specs.Split.{most_nodes}
+use Rattle.graph.proofs.Marks.{marked_past}
 use Rattle.graph.proofs.set.NumberSet.is_empty_below.Goals as goal
 
--- where no number below n is a member, or one is, the set is empty there, or is not
-empty_below : (n : ℕ) (X : Set) (r : Bool)
-    → MatchBool r (AllWithin (λ x. X x ≡ false) (range_with_len 0 n) 0 (length (range_with_len 0 n)))
-    ((k : ℕ) × (k < length (range_with_len 0 n)) × HoldsAt (λ x. X x ≡ true) (range_with_len 0 n) k)
-    → r ≡ (size n X == 0)
-empty_below n X true h =
-    elim (size_find n X) [
-      | inl e ↦ sym (eq-eqb (size n X) 0 e)
+-- where one of the first m marks is made, or none is, there is a member below n, or there is none: past the marks nothing is in
+empty_below : (n m : ℕ) (bs : List Bool) (r : Bool) → m ≡ min n most_nodes → length bs ≡ most_nodes
+    → Decides r ((k : ℕ) × (k < length (take m bs)) × HoldsAt (λ y. y ≡ true) (take m bs) k)
+    → not r ≡ (size n (marked bs) == 0)
+empty_below n m bs true few long told =
+    let h = told.0 refl in
+    let lt : h.0 < m = omega (arith, h.1, length-take m bs) in
+    let here : marked bs h.0 ≡ true = sym (get_or-take m bs h.0 false lt) ∙ h.2 false in
+    sym (ne_eqb (size n (marked bs)) 0 (λ e. omega (arith, size_member n (marked bs) h.0 (omega arith) here)))
+empty_below n m bs false few long told =
+    elim (size_find n (marked bs)) [
+      | inl e ↦ sym (eq-eqb (size n (marked bs)) 0 e)
       | inr w ↦
-          let lt : w.0 < length (range_with_len 0 n) = simp length-range_with_len w.1 in
-          absurd (both_ways (X w.0) (rw (get_or-range_with_len 0 n w.0 0 w.1, zero-add) at (h w.0 0 (omega arith) lt)) w.2)
+          elim (cases_lt w.0 most_nodes) [
+            | inl lt ↦ absurd (both_ways false refl (told.1 (w.0, omega (arith, length-take m bs), λ d. grind (arith, elements, w.2))))
+            | inr past ↦ absurd (both_ways (marked bs w.0) (marked_past bs w.0 (omega arith)) w.2)
+          ]
     ]
-empty_below n X false h =
-    let lt : h.0 < n = simp length-range_with_len at h.1 in
-    let here : X h.0 ≡ true = rw (get_or-range_with_len 0 n h.0 0 lt, zero-add) at (h.2 0) in
-    sym (ne_eqb (size n X) 0 (λ e. omega (arith, size_member n X h.0 lt here)))
 
 pub returns : goal.returns
 returns c =
-    let X : Set = set_of c.args.self.now in
-    empty_below c.args.n X c.all.result
-    (cases_from_all _ _ _ (λ x. X x ≡ false) (λ x. X x ≡ true) c.all.ensures.ran (YieldsList-from_range 0 c.args.n c.args.n refl (omega arith))
-    (λ x q k. search (rules, tests)) (λ x q k. search (rules, tests)))
+    empty_below c.args.n c.min.result c.args.self.now.marks c.contains.result c.min.ensures (omega arith)
+    (contains_decides _ booleans_Decides _ true c.contains.result c.contains.ensures.cases)
